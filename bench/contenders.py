@@ -1,8 +1,9 @@
-"""Who performs the list of bench/jobs, each as its own pages advise.
+"""The programs that perform the list of bench/jobs, each as its own pages advise.
 
-A contender has a folder of its own with the list, `jobs`. `words` is the command with which its user starts it, and starts it
-again. `stand` is what its own record says: of each line "done" or "doubt", and nothing of one that isn't begun. `worker` is a word
-by which a worker's process is known, where there are any beside the runner.
+A contender has a folder of its own with the list, `jobs`. `words` is the command with which its
+user starts it, and starts it again. `stand` is what its own record says: of each line "done" or
+"doubt", and nothing of a line that isn't begun. `worker` is a word by which a worker's process is
+known, if it has other processes than the runner.
 """
 
 import glob
@@ -26,7 +27,7 @@ PSQL = ["psql", "-XqAt", "-v", "ON_ERROR_STOP=1", "-U", "postgres", "-d", "postg
 
 
 def content(path):
-    """All bytes of a file; none where there is no file."""
+    """Returns all bytes of a file, or none if it is missing."""
     if not os.path.exists(path):
         return b""
     with open(path, "rb") as file:
@@ -34,7 +35,7 @@ def content(path):
 
 
 def kind_of(code):
-    """A command that was killed may have done its work, or not."""
+    """Returns a command that was killed may have done its work, or not."""
     return "done" if 0 <= int(code) <= 128 else "doubt"
 
 
@@ -46,12 +47,13 @@ class Contender:
         self.workers, self.act = str(given.workers), [ACT, f"{room}/effects/file"]
 
     def prepare(self):
-        """What its user does once, before the first start."""
+        """Does what its user does once, before the first start."""
 
 
 class Parallel(Contender):
-    """Started again with --resume it skips the lines that stand in its log, where one comes when its command has ended. So what ran
-    when it was killed is begun again. (--resume-failed would begin killed commands again too.) It syncs nothing."""
+    """GNU parallel. Started again with --resume it skips the lines in its log, which gets a line
+    once a command has ended. So a command that ran at the kill is begun again. (--resume-failed
+    would begin killed commands again too.) It syncs nothing."""
     name, title, program = "parallel", "GNU parallel, `--resume`", "parallel"
 
     def words(self):
@@ -63,8 +65,9 @@ class Parallel(Contender):
 
 
 class Xargs(Contender):
-    """Its commands append to a log when they end. Started again it gets the lines that the log doesn't have, so what ran is begun
-    again, while it may still run. It stops when a shell that it has started is killed. Nothing is synced."""
+    """Its commands append to a log when they end. Started again it gets the lines that the log
+    doesn't have, so what ran is begun again, while it may still run. It stops when a shell that it
+    has started is killed. Nothing is synced."""
     name, title, program, worker = "xargs", "`xargs -P`, a log of ends", "xargs", LOGGED
 
     def words(self):
@@ -90,8 +93,9 @@ class Plain(Contender):
 
 
 class Flock(Contender):
-    """Started again its workers take lines without an intent, so one that was begun and has no end stays in doubt. Workers that
-    outlive their runner go on beside the new ones."""
+    """A journal under flock. Started again its workers take lines without an intent, so a line that
+    was begun and has no end stays in doubt. Workers that outlive their runner go on next to the new
+    ones."""
     name, title, worker = "flock", "a journal under `flock`", f"{HERE}/worker_flock"
 
     def words(self):
@@ -115,8 +119,9 @@ class Sqlite(Flock):
 
 
 class Held(Contender):
-    """What ends a worker rolls back what it holds, and its line is handed out again, by the workers that live or by those that are
-    started then."""
+    """PostgreSQL with a row locked through the job. If a worker ends, its transaction is rolled
+    back, and its line is handed out again, by the workers that live or by those that are started
+    then."""
     name, title, worker, way = "held", "PostgreSQL, row locked through the job", f"{HERE}/worker_postgres", "held"
 
     def prepare(self):
@@ -135,12 +140,14 @@ class Held(Contender):
 
 
 class Claimed(Held):
-    """Started again its workers take open rows, so one that was claimed and isn't noted as done stays in doubt."""
+    """Started again its workers take open rows, so one that was claimed and isn't noted as done
+    stays in doubt."""
     name, title, way = "claimed", "PostgreSQL, claim committed first", "claimed"
 
 
 class Amo(Contender):
-    """Started again with the same words it goes on. What was begun and has no end is in doubt, once nothing of it runs any more."""
+    """amo_jobs. Started again with the same words it goes on. A line that was begun and has no end
+    is in doubt, once nothing of it runs any more."""
     name, title, program, worker = "amo_jobs", "`amo_jobs crew`", AMO_JOBS[1], "work"
 
     def words(self):
@@ -160,8 +167,8 @@ class Amo(Contender):
 
 
 class Base:
-    """A PostgreSQL of one's own in a folder, with its settings as they come, by which it syncs each commit. root has it run as
-    postgres, since it refuses root."""
+    """A PostgreSQL of one's own in a folder, with its settings as they come, by which it syncs each
+    commit. root has it run as postgres, since it refuses root."""
 
     def __init__(self, above, is_wanted):
         places = [os.environ["PATH"], *sorted(glob.glob("/usr/lib/postgresql/*/bin"), reverse=True)]

@@ -1,4 +1,4 @@
-//! What bench/measure measures of the proved crates, in plain Rust: the same events, ranks, turns, judgements and accesses,
+//! The parts that bench/measure measures of the proved crates, in plain Rust: the same events, ranks, turns, judgements and accesses,
 //! with the same counts and checks. `bench/core` builds and runs both and prints their figures side by side.
 //!
 //!     core times             a line for each figure: its name, the items of a run, a check, picoseconds an item
@@ -67,7 +67,7 @@ fn times() {
     crews::measure();
 }
 
-/// What one run did, and how long it took.
+/// The work of one run, and its time.
 #[derive(Clone, Copy)]
 struct Figure {
     items: u64,
@@ -98,8 +98,9 @@ fn print_pace(name: &str, mut once: impl FnMut() -> Figure) {
     println!("{name} {} {} {best}", figure.items, figure.check);
 }
 
-/// The words of the others than worker 1, at the places of their numbers: what they announce, and their rows, whose
-/// entries are at the places 1, 2, ..; 0 is at all places that are left out.
+/// The words of the workers other than worker 1, at the places of their numbers: their
+/// announcements, and their rows. The entries of a row are at the places 1, 2, .., and 0 is at all
+/// places that are left out.
 #[derive(Default)]
 struct Others {
     next: Vec<u32>,
@@ -107,7 +108,8 @@ struct Others {
 }
 
 impl Others {
-    /// Each has done its share of the jobs, which is as large as that of worker 1, and announces one of worker 1's.
+    /// Each has done its share of the jobs, which is as large as that of worker 1, and announces
+    /// one of worker 1's.
     fn busy(workers: u32) -> Others {
         let share = JOBS / workers;
         let row_of = |q: u32| {
@@ -183,7 +185,8 @@ fn rank_walked(free: &[u32], tried: &[u32], rank: u32) -> u32 {
     panic!("no member has the rank {rank}");
 }
 
-/// The same by its place, which each member of the other list up to it puts off by one.
+/// Returns the number of this rank by its place, which each member of the other list up to it puts
+/// off by one.
 fn rank_indexed(free: &[u32], tried: &[u32], rank: u32) -> u32 {
     let mut place = rank as usize - 1;
     for job in tried {
@@ -243,15 +246,15 @@ fn judging(givens: Givens, history: &[Event]) -> Figure {
     Figure { items, check, time }
 }
 
-/// The next turn of worker p. True where it ends p.
+/// Takes the next turn of worker p. Returns true if it ends p.
 fn ends(world: &mut World, p: u32) -> bool {
     let was_gone = world.seats[p as usize - 1].gone;
     world.turn(p);
     world.seats[p as usize - 1].gone && !was_gone
 }
 
-/// Turns of the workers in rotation until all have ended, and how many turns there were, those of ended workers
-/// among them.
+/// Turns of the workers in rotation until all have ended, and how many turns there were, those of
+/// ended workers among them.
 fn rotate(world: &mut World) -> u64 {
     let workers = world.givens.workers;
     let mut running = workers;
@@ -297,8 +300,8 @@ fn weigh(jobs: u32, workers: u32) -> io::Result<()> {
     Ok(())
 }
 
-/// The figure of reading a plan. There is no reader of TOML in Rust's own library, so this is another, simpler work:
-/// the lines of `key = value`, and no test.
+/// The figure of reading a plan. There is no reader of TOML in Rust's own library, so this is
+/// another, simpler work: the lines of `key = value`, and no test.
 fn plan(name: &str, text: &str) {
     print_pace(name, || {
         let start = Instant::now();

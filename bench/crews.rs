@@ -1,5 +1,6 @@
-//! Jobs executed by threads in plain Rust: by the same workers on sequentially consistent words, by threads that take the
-//! payloads from one list behind a lock, and by threads that count one word up. bench/core.rs measures them.
+//! Jobs executed by threads in plain Rust, in three ways: by the same workers on sequentially
+//! consistent words, by threads that take the payloads from one locked list, and by threads that
+//! count one word up. bench/core.rs measures them.
 
 use super::floors::Floor;
 use super::replay::{Givens, Local, Want};

@@ -1,5 +1,6 @@
-//! The traces, pictures and reports of examples/plans/, and traces that were worked out by hand. Run at the top:
-//! `rustc --test --edition 2021 -o bench/out/texts bench/show.rs && bench/out/texts`.
+//! The traces, pictures and reports of examples/plans/, and traces that were worked out by hand.
+//! Run at the top: `rustc --test --edition 2021 -o bench/out/texts bench/show.rs &&
+//! bench/out/texts`.
 use super::*;
 use std::fs;
 use std::process::{Command, Stdio};
@@ -87,7 +88,8 @@ fn alone(version: u32, schedule: &str, jobs: u32) -> Plan {
     Plan::read(&(head + &names))
 }
 
-/// Asked to leave with a job in its hand, a worker stays. The last move has no line, since nobody is left.
+/// Asked to leave with a job in its hand, a worker stays. The last move has no line, since nobody
+/// is left.
 #[test]
 fn a_worker_that_stays_and_one_that_leaves() {
     let wanted = "jobs 2 block 1 blocks 2 workers 1 beta 1 bound 2

@@ -1,5 +1,5 @@
-//! Workers on words in plain Rust: sequentially consistent loads and stores, and a payload for each job, which whoever
-//! claims the job takes. bench/core.rs measures it.
+//! Workers on words in plain Rust: sequentially consistent loads and stores, and a payload for each
+//! job, which whoever claims the job takes. bench/core.rs measures it.
 
 use super::replay::{Givens, Local, Want};
 use super::{Figure, mixed, print_pace};

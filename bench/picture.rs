@@ -1,5 +1,5 @@
-//! The picture of a run: a row for each move that changes something, or, where there are too many of them, a column for
-//! each job and a lane for each worker.
+//! The picture of a run: a row for each move that changes something, or, if there are too many of
+//! them, a column for each job and a lane for each worker.
 
 use super::replay::{self, Phase, Plan, Want, World};
 use super::{Act, All, Piece, Step, Text, first_line, steps};
@@ -66,7 +66,7 @@ pub fn drawn(plan: &Plan) -> Text {
     picture.out
 }
 
-/// What is drawn of a run.
+/// The run that is drawn.
 struct Run {
     /// The first moves that change something, one more than may have rows.
     rows: Vec<Step>,
@@ -214,7 +214,7 @@ impl Picture<'_> {
         (1..=self.plan.givens.jobs).filter(|job| !is_claimed[*job as usize]).collect()
     }
 
-    /// What the columns of a picture of jobs are.
+    /// Returns the kind of the columns of a picture of jobs.
     fn kind(&self) -> &'static str {
         if self.plan.block.is_some() { "blocks" } else { "jobs" }
     }
@@ -236,12 +236,13 @@ impl Picture<'_> {
     }
 }
 
-/// Where the line of a worker is.
+/// Returns the place of a worker's line.
 fn lane(worker: u32) -> u32 {
     176 * worker - 100
 }
 
-/// How far down a row is, the first being row 1. The heads of the lanes take the place of a row each time that they come again.
+/// How far down a row is, the first being row 1. The heads of the lanes take the place of a row
+/// each time that they come again.
 fn row(number: usize) -> u32 {
     let heads = (number - 1) / RULED_ROWS;
     72 + 18 * (number + heads) as u32
@@ -375,7 +376,8 @@ impl Picture<'_> {
         "</g>\n".put(&mut self.out);
     }
 
-    /// A load of a job, with a line from the label or the mark to where the word of worker q is. Gives the class.
+    /// Draws a load of a job, with a line from the label or the mark to the word of worker q.
+    /// Returns the class.
     fn draw_sight(&mut self, step: &Step, y: u32, q: u32, word: u32, label: usize, is_own: bool) -> &'static str {
         let x = lane(step.worker);
         let from = if q < step.worker { x } else { x + 14 + 8 * label as u32 };
@@ -398,7 +400,8 @@ impl Picture<'_> {
         let at = |number: u32| 72 + 960 * number / run.last;
         let place = |job: u32| 72 + 768 * (2 * job - 1) / (2 * jobs);
         let start = |mark: &Mark| ("M", place(mark.job), " ", at(mark.number));
-        // where the marks of a worker's claims stand, those of worker 1 first, and at last those of the jobs of nobody
+        // the places of the marks of claims, those of worker 1 first, and last those of jobs
+        // without a claim
         let band = |lane: u32| 1052 + 14 * lane;
         let bottom = band(workers + 1);
         self.head(width, bottom + 160);

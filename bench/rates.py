@@ -31,8 +31,8 @@ SHORTEST, LONGEST = 0.01, 2.0
 
 
 class Way(NamedTuple):
-    """How programs are started: the program amo_worker, or a script that starts it; the words
-    before those of another program; and what the environment of each has in addition."""
+    """A way to start programs: the program amo_worker, or a script that starts it; the words before
+    those of another program; and the additions to the environment of each."""
     worker: str
     words: Sequence[str] = ()
     more: Sequence[tuple] = ()
@@ -43,15 +43,15 @@ class Way(NamedTuple):
 
 
 class Size(NamedTuple):
-    """How large a run is: its lines, its workers, and the seconds that it may take."""
+    """The size of a run: its lines, its workers, and the seconds that it may take."""
     lines: int
     workers: int
     seconds: float = math.inf
 
 
 class Span(NamedTuple):
-    """What was done: how many lines, how many of them lie between the two times with all that they
-    take, when the first was begun, and when the last was over."""
+    """The result of a run: how many lines it did, when the first was begun, and when the last was
+    over. It has how many of them lie between the two times with all that they take."""
     count: int
     whole: int
     first: float

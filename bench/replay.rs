@@ -11,7 +11,7 @@
 //! ```
 //!
 //! It does the same work: sets of jobs are bit words, and each worker keeps the number of jobs that it could take.
-//! Of the plan it reads only what is written one key a line, as in most of `examples/plans/`, and it tests nothing: a plan
+//! It reads plans that have one key a line, as most of `examples/plans/`, and it tests nothing: a plan
 //! that breaks a rule makes it panic or write nonsense.
 
 use std::fmt::Write as _;
@@ -62,7 +62,8 @@ impl Givens {
     }
 }
 
-/// A set of jobs within `1..=n`: job `j` is bit `(j - 1) % 64` of word `(j - 1) / 64`. How many there are is kept.
+/// A set of jobs within `1..=n`: job `j` is bit `(j - 1) % 64` of word `(j - 1) / 64`. How many
+/// there are is kept.
 #[derive(Clone, Debug)]
 pub struct JobSet {
     words: Vec<u64>,
@@ -132,7 +133,8 @@ impl JobSet {
     }
 }
 
-/// Where a worker stands: the job of its attempt, and the other worker whose word it is about to read.
+/// The phase of a worker: the job of its attempt, and the other worker whose word it is about to
+/// read.
 #[derive(Clone, Copy, Debug, PartialEq)]
 pub enum Phase {
     Announcing(u32),
@@ -145,7 +147,7 @@ pub enum Phase {
 }
 
 impl Phase {
-    /// The job of the attempt, or 0 where there is none.
+    /// Returns the job of the attempt, or 0 without an attempt.
     pub fn job(self) -> u32 {
         match self {
             Phase::Announcing(job) | Phase::Claiming(job) | Phase::Holding(job) => job,
@@ -166,7 +168,7 @@ pub enum Want {
     Nothing,
 }
 
-/// What one worker has for itself.
+/// The state of one worker.
 pub struct Local {
     givens: Givens,
     number: u32,
@@ -316,8 +318,8 @@ pub enum Event {
     Left(u32),
 }
 
-/// A worker with the shared words that it alone writes. How many jobs it has claimed is one of them, too; no worker
-/// reads that word, so it is left out here.
+/// A worker with the shared words that it alone writes. How many jobs it has claimed is one of
+/// them, too; no worker reads that word, so it is left out here.
 pub struct Seat {
     pub local: Local,
     next: u32,
@@ -363,7 +365,7 @@ impl World {
         }
     }
 
-    /// So many times a turn of each worker, in the order of their numbers.
+    /// Gives each worker a turn so many times, in the order of their numbers.
     fn run_rounds(&mut self, rounds: u32) {
         for _ in 0..rounds {
             for worker in 1..=self.givens.workers {
@@ -372,8 +374,8 @@ impl World {
         }
     }
 
-    /// Each worker that is here goes on alone until it ends, in the order of their numbers. Gives back the most turns that
-    /// one took for a claim or its end.
+    /// Each worker that is here goes on alone until it ends, in the order of their numbers. Gives
+    /// back the most turns that one took for a claim or its end.
     fn run_out(&mut self) -> u32 {
         let mut most = 0;
         for worker in 1..=self.givens.workers {
@@ -445,7 +447,8 @@ impl World {
 /// The part of a plan that a report needs.
 pub struct Plan {
     pub givens: Givens,
-    /// How many jobs are in a block, in version 2 alone. There the jobs of the givens are the blocks.
+    /// How many jobs are in a block, in version 2 alone. There the jobs of the givens are the
+    /// blocks.
     pub block: Option<u32>,
     pub names: Vec<String>,
     says: Vec<String>,
@@ -524,7 +527,8 @@ pub fn first_bad(givens: Givens, history: &[Event]) -> Option<usize> {
     None
 }
 
-/// Which jobs are unclaimed, the job in each worker's hand or 0, the performed pairs, and which workers are gone.
+/// Which jobs are unclaimed, the job in each worker's hand or 0, the performed pairs, and which
+/// workers are gone.
 struct State {
     givens: Givens,
     unclaimed: Vec<bool>,
@@ -585,7 +589,8 @@ impl State {
     }
 }
 
-/// Turn i, from 0, of schedule s is one of worker s / workers^i % workers + 1; the plan's rounds follow.
+/// Turn i, from 0, of schedule s is one of worker s / workers^i % workers + 1; the plan's rounds
+/// follow.
 fn explored(plan: &Plan, schedule: u64, length: u32) -> World {
     let workers = u64::from(plan.givens.workers);
     let mut world = World::new(plan.givens);
@@ -615,8 +620,8 @@ pub fn explore(plan: &Plan, from: u64, count: u64, length: u32) -> String {
     out
 }
 
-/// A line for each number of moves after which the worker is stopped, and the least number of performances. The others go on
-/// alone then; the plan's rounds are not used.
+/// A line for each number of moves after which the worker is stopped, and the least number of
+/// performances. The others go on alone then; the plan's rounds are not used.
 pub fn stops(plan: &Plan, worker: u32) -> String {
     let mut out = String::new();
     let mut least = usize::MAX;

@@ -29,8 +29,8 @@ class Kill(NamedTuple):
 
 
 class Audit(NamedTuple):
-    """How many lines were performed twice, lost unseen, are in doubt, are so and were performed,
-    and are not begun."""
+    """The counts of lines: performed twice, lost unseen, in doubt, in doubt and performed, and not
+    begun."""
     twice: int
     lost: int
     doubts: int
@@ -86,7 +86,7 @@ class Session:
         self.look_anew()
 
     def see_out(self) -> Audit:
-        """Starts it until nothing is left to begin, and waits for what it has left behind."""
+        """Starts it until nothing is left to begin, and waits for its leftovers."""
         end = time.monotonic() + LONGEST
         self.start()
         while time.monotonic() < end and not self.is_over():

@@ -10,7 +10,7 @@
 //! bench/out/show trace < examples/plans/two_collide.toml
 //! ```
 //!
-//! A trace is written while the plan runs. Of a run that is drawn only what a picture shows is kept.
+//! A trace is written while the plan runs. If a run is drawn, it keeps only the parts that a picture shows.
 
 #[cfg(test)]
 mod examples;
@@ -22,7 +22,7 @@ mod replay;
 use replay::{Move, Phase, Plan, Want, World};
 use std::io::{self, Read as _, Write};
 
-/// So many bytes of a trace are written at a time.
+/// The number of bytes of a trace that are written at a time.
 const ROOM: usize = 1 << 16;
 
 fn main() -> io::Result<()> {
@@ -81,7 +81,7 @@ fn steps<'a>(plan: &'a Plan, world: &'a mut World) -> impl Iterator<Item = Step>
     })
 }
 
-/// What one move does.
+/// The effect of one move.
 struct Step {
     /// The number of the move, from 1.
     number: u32,
@@ -89,7 +89,7 @@ struct Step {
     act: Act,
     before: Phase,
     after: Phase,
-    /// Whether the worker is gone then.
+    /// True if the worker is gone then.
     gone: bool,
 }
 
@@ -138,13 +138,13 @@ impl Step {
         }
     }
 
-    /// Whether it loads, and the attempt ends by that without a claim.
+    /// Returns true if it loads, and the attempt ends by that without a claim.
     fn fails(&self) -> bool {
         let loads = matches!(self.act, Act::Turned(Want::LoadNext(_) | Want::LoadDone(..), _));
         loads && matches!(self.after, Phase::Announcing(_) | Phase::Over)
     }
 
-    /// Whether it is more than a wasted move.
+    /// Returns true if it is more than a wasted move.
     fn changes(&self) -> bool {
         !matches!(self.act, Act::Stays | Act::Idles)
     }
@@ -165,7 +165,7 @@ impl Step {
         }
     }
 
-    /// What it comes to, where that is more than the act says.
+    /// Appends its further effect, if it has one that the act doesn't show.
     fn put_fact(&self, out: &mut Text) {
         match self.act {
             _ if self.fails() => (" failed ", self.before.job()).put(out),
@@ -181,7 +181,7 @@ impl Step {
 /// The bytes of a text, which is ASCII.
 type Text = Vec<u8>;
 
-/// What a text is put together of.
+/// A part of a text.
 trait Piece {
     fn put(self, out: &mut Text);
 }
@@ -215,7 +215,7 @@ impl Piece for u32 {
     }
 }
 
-/// Where a worker stands, and whether it is gone.
+/// The state of a worker, and whether it is gone.
 struct State(Phase, bool);
 
 impl Piece for State {

@@ -1,8 +1,9 @@
-"""How fast amo_jobs runs a list, next to a flock script and to `xargs -P`: `speed` of bench/jobs.
+"""The pace of amo_jobs over a list, next to a flock script and to `xargs -P`: `speed` of
+bench/jobs.
 
 The contenders take turns in each round, on the same disk. A number is the median of the rounds. A
-ratio is the median of the ratios of two runs of one round; behind it stand the lowest and the
-highest one.
+ratio is the median of the ratios of two runs of one round. The lowest and the highest one follow
+it.
 """
 
 from __future__ import annotations
@@ -24,8 +25,8 @@ TASKS, WORKERS = 100_000, 4  # of the long list
 
 
 class Row(NamedTuple):
-    """What is measured: how long a job waits, in seconds, by how many workers, and whether syncs
-    are slowed. `wanted` are the lowest ratios to the flock script and to xargs."""
+    """A measurement: how long a job waits, in seconds, by how many workers, and whether syncs are
+    slowed. `wanted` are the lowest ratios to the flock script and to xargs."""
     wait: str
     workers: int
     is_slow: bool = False

@@ -33,7 +33,7 @@ __attribute__((constructor)) static void begin(void) {
     told = open(path, O_WRONLY | O_CREAT | O_APPEND | O_CLOEXEC, 0600);
 }
 
-/* Whether the call that begins now fails. */
+/* True if the call that begins now fails. */
 static int fails(void) {
   if (atomic_fetch_add(&begun, 1) + 1 != failed)
     return 0;
@@ -41,7 +41,7 @@ static int fails(void) {
   return 1;
 }
 
-/* What a call has answered, once it is counted. */
+/* The result of a call, once it is counted. */
 static long made(const char *word, int file, long answer) {
   char link[40], line[PATH_MAX + 40];
   int error = errno;

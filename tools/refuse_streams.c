@@ -14,7 +14,7 @@
 #include <sys/syscall.h>
 #include <unistd.h>
 
-/* What is left to give or to take, the most that moves at once, how many calls were made, and whether it is over. */
+/* The bytes left to give or to take, the most that move at once, how many calls were made, and whether it is over. */
 struct stream {
   long room, piece, interrupted, calls;
   int over;
@@ -35,7 +35,7 @@ __attribute__((constructor)) static void begin(void) {
   takes_nothing = getenv("WRITE_NOTHING") != NULL;
 }
 
-/* How many of so many bytes may move, or -1 with errno. */
+/* Returns how many of so many bytes may move, or -1 with errno. */
 static long allowed(struct stream *stream, size_t count, int fault) {
   if (stream->over)
     _exit(99);

@@ -33,7 +33,7 @@ class State(NamedTuple):
 
 
 class Bounds(NamedTuple):
-    """How far a search goes."""
+    """The limits of a search."""
     appends: int
     stops: int
 

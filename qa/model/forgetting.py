@@ -47,7 +47,7 @@ class State(NamedTuple):
 
 
 class Bounds(NamedTuple):
-    """How far a search goes: it has no bound."""
+    """The limits of a search: it has none."""
 
 
 class Rules(NamedTuple):

@@ -64,7 +64,7 @@ class State(NamedTuple):
 
 
 class Bounds(NamedTuple):
-    """How far a search goes."""
+    """The limits of a search."""
     crews: int
     ids: int
 
@@ -88,7 +88,7 @@ def performed_twice(state: State) -> str:
 
 
 def nothing(path: int, rules: Rules) -> Optional[Folder]:
-    """Returns what stands at a path where nobody has put anything: a mount point is a folder."""
+    """Returns the entry at a path at which nobody has put anything: a mount point is a folder."""
     return Folder() if path == HOME and rules.mount_point == ITSELF else None
 
 

@@ -62,7 +62,7 @@ class Write(NamedTuple):
 
 
 class Bounds(NamedTuple):
-    """How far a search goes. Kills, stops and failures have no bound."""
+    """The limits of a search. Kills, stops and failures have none."""
     appends: int
     tries: int
     cells_a_page: int

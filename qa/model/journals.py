@@ -1,6 +1,6 @@
 """One file of appends, as it stands between a process that appends to it and a stop of the machine.
 
-Journals and the operators' resolutions have this form. What an append is depends on the model.
+Journals and the operators' resolutions have this form. The model decides the content of an append.
 """
 
 from __future__ import annotations

@@ -22,7 +22,7 @@ COMPILER = "c++"
 
 
 class Bounds(NamedTuple):
-    """How far a search goes. A number that is None has no bound."""
+    """The limits of a search. A number that is None is no limit."""
     workers: int = 2
     lines: int = 1
     intents: int = 4  # for which a journal has room

@@ -41,7 +41,7 @@ class State(NamedTuple):
 
 
 class Bounds(NamedTuple):
-    """How far a search goes."""
+    """The limits of a search."""
     appends: int
 
 
@@ -56,7 +56,7 @@ class Rules(NamedTuple):
 
 
 class Judged(NamedTuple):
-    """What a reader makes of the bytes that it found."""
+    """The result of a reader for the bytes that it found."""
     last: int  # where the last whole append begins
     is_wrong: bool
 

@@ -34,7 +34,7 @@ class Worker(NamedTuple):
 
 
 class Performed(NamedTuple):
-    """That a worker has performed a line."""
+    """Raised if a worker has performed a line."""
     worker: int
     line: int
 
@@ -49,7 +49,7 @@ class State(NamedTuple):
 
 
 class Bounds(NamedTuple):
-    """How far a search goes. Kills and restarts have no bound."""
+    """The limits of a search. Kills and restarts have none."""
     appends: int  # of each journal
     vanished: int
 

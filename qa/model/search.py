@@ -15,7 +15,7 @@ Steps = Iterable[Tuple[str, State]]  # of each step its label, and the state aft
 
 
 class Found(NamedTuple):
-    """What a search found: a violation with the steps that lead to it, or nothing."""
+    """The result of a search: a violation with the steps that lead to it, or nothing."""
     states: int
     is_exhausted: bool  # no state is left to look at
     violation: str = ""  # empty if no state is wrong

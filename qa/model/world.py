@@ -74,7 +74,7 @@ class World(NamedTuple):
 
 
 class Bounds(NamedTuple):
-    """How far a search goes. Kills, restarts and failed appends have no bound."""
+    """The limits of a search. Kills, restarts and failed appends have none."""
     workers: int
     intents: int  # of each journal
     answers: Optional[int] = None  # of operators; None: any number
@@ -82,7 +82,7 @@ class Bounds(NamedTuple):
 
 
 class Effects(NamedTuple):
-    """How commands perform the line."""
+    """The way in which commands perform the line."""
     arrive_later: bool = False  # a request may arrive after its command has ended
     are_awaited: bool = True  # an operator answers only once no request is under way
 

@@ -23,7 +23,7 @@ BOOT_STEP = 1_000_000  # processes of boot N get numbers from N times this one o
 
 
 class Dangers(NamedTuple):
-    """What may befall the processes of one boot, in addition to its cut."""
+    """The dangers to the processes of one boot, in addition to its cut."""
 
     has_kills: bool = False
     fails: bool = False  # the disk fails one request
@@ -31,7 +31,7 @@ class Dangers(NamedTuple):
 
 
 class Event(NamedTuple):
-    """What a disk must show if it is cut after the bank had heard so many lines."""
+    """The duty of a disk that is cut after the bank has received so many lines."""
 
     heard: int
     kind: str  # performed or answered
@@ -133,7 +133,7 @@ class Bank:
             self.wrong(f"{what} after it was answered done", f"line {line} by {attempt}")
 
     def take_doubts(self, rest: str) -> str:
-        """An operator looks at the doubts, and answers some of them truthfully, by the book."""
+        """Answers some of the listed doubts truthfully, by the book, as an operator does."""
         share, rows = self.draws.choice((1, 1, 1, 0.5, 0)), []
         self.sent = []
         for it in json.loads(rest):
@@ -148,7 +148,7 @@ class Bank:
         return "".join(rows) + ".\n"
 
     def answer(self, line: int) -> str:
-        """Returns what the book has of a line, and notes that the operator says so."""
+        """Returns the book's entry on a line, and notes that the operator answers so."""
         word = "done" if line in self.performed else "not-done"
         self.counts[f"answers {word}"] += 1
         if word == "done":
@@ -189,7 +189,7 @@ class Bank:
             self.wrong("refused", rest)
 
     def take_state(self, rest: str) -> None:
-        """How the lines stand by the program, against the book."""
+        """Compares the statuses of the lines, as the program prints them, with the book."""
         if rest == "none":
             if self.performed:
                 self.wrong("lost", f"no run, and {len(self.performed)} lines are performed")

@@ -31,7 +31,7 @@ TROUBLE = ("error", "corrupt", "panic", "bug:", "warning:")
 
 
 class Setting(NamedTuple):
-    """What is tried: the disk of the guest, and what runs there."""
+    """The setting of a cut: the disk of the guest, and the programs that run there."""
 
     fs: str = "ext4"
     options: str = ""  # of the mount
@@ -58,7 +58,7 @@ class Setting(NamedTuple):
 
 
 class Place(NamedTuple):
-    """Where runs leave their files, and the guest that they use."""
+    """The folder for the files of runs, and the guest that they use."""
 
     out: str  # the folder for results
     disks: str  # the folder for disks, best in memory
@@ -181,7 +181,7 @@ class Run:
                 return
 
     def note(self, text: str) -> None:
-        """Writes down what was said, with the seconds since the run began."""
+        """Writes a message down, with the seconds since the run began."""
         self.said.write(f"{time.monotonic() - self.begun:.2f} {text}\n".encode())
 
     def count(self, disk: Disk, moment: Moment, loose: int, stay: int) -> None:

@@ -1,7 +1,8 @@
 """A disk with a volatile write cache, which qemu reaches by the protocol of NBD.
 
-What the guest hasn't flushed may be lost at a cut: all of it, none, or any of its sectors. Each
-write and each flush stands in a log. `states.py` makes further disks of it that a cut may leave.
+A cut may lose the writes that the guest hasn't flushed: all of them, none, or any of their sectors.
+Each write and each flush stands in a log. `states.py` makes further disks of it that a cut may
+leave.
 """
 
 from __future__ import annotations
@@ -119,7 +120,7 @@ class Disk:
         return bool(data)
 
     def agree(self, head: bytes, place: int) -> int:
-        """Answers an option of the client. Returns how many bytes it has; 0 if it isn't whole."""
+        """Returns an option of the client. Returns how many bytes it has; 0 if it isn't whole."""
         assert self.connection
         if not self.has_flags:
             self.has_flags = len(head) >= 4

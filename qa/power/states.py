@@ -42,8 +42,8 @@ class State(NamedTuple):
 
 
 class Found(NamedTuple):
-    """What is wrong with a state: breaches of the program, and refusals of a file system that this
-    disk isn't good enough for."""
+    """The faults of a state: breaches of the program, and refusals of a file system that this disk
+    isn't good enough for."""
 
     breaches: List[str]
     refusals: List[str]
@@ -78,7 +78,8 @@ class Log:
                 yield self.state(number, entry.mark, how, draws)
 
     def state(self, number: int, mark: int, how: str, draws: random.Random) -> State:
-        """Returns a state after this request; `mark` is what the bank had heard by then."""
+        """Returns a state after this request; `mark` is the line that the bank has received by
+        then."""
         found, stay = left_of(self.loose, how, draws, SECTOR[self.fs])
         by_then = [it for it in self.history if it.heard <= mark]
         name = (f"{self.name}, after request {number} of {len(self.entries)}, {how}: {len(stay)} of"
@@ -136,7 +137,7 @@ class ByTools:
         return Found(self.wrongs(state, f"{out}/{folders[0]}"), [])
 
     def wrongs(self, state: State, path: str) -> List[str]:
-        """Returns where a run's folder isn't as the book."""
+        """Returns the differences between a run's folder and the book."""
         if not os.path.exists(f"{path}/id"):
             return [f"lost: {state.name}"] if state.performed else []
         try:
@@ -157,7 +158,8 @@ class ByTools:
         return [f"{it}: {state.name}" for it in wrongs]
 
     def live_on(self, path: str, state: State, opened: Set[int]) -> List[str]:
-        """The program goes on alone: it must hand over each open line once, and no other."""
+        """Lets the program go on alone. Returns its faults: it must hand over each open line once,
+        and no other."""
         self.counts["states from which the program went on"] += 1
         jobs, handed = f"{self.room}/jobs", list[int]()
         with open(jobs, "w", encoding="utf-8") as file:
@@ -244,7 +246,7 @@ class ByKernel:
         return self.found(state)
 
     def found(self, state: State) -> Found:
-        """Returns where the guest's lines aren't as the book."""
+        """Returns the differences between the guest's lines and the book."""
         bank = Bank(state.lines, random.Random(0), False)
         bank.performed = {it: [] for it in state.performed}
         bank.taken = set(state.answered)

@@ -28,7 +28,8 @@ class Digests(unittest.TestCase):
     def setUp(self) -> None:
         room = tempfile.TemporaryDirectory()
         self.addCleanup(room.cleanup)
-        self.crate = SimpleNamespace(folder=room.name, name="amo_two")
+        self.crate = SimpleNamespace(folder=room.name, name="amo_two", kit=room.name)
+        self.put("KIT-ID", "kit 1\n")
         self.put("src/lib.rt", CODE)
         self.put("specs/Lib.antt", "-- two\ntwo = 2 -- it\n")
         self.put("wrong-bodies/three.edit", "file: src/lib.rt\nold: 2\nnew: 3\n")
@@ -57,10 +58,13 @@ class Digests(unittest.TestCase):
         self.assertTrue(self.changes("proofs/two/Answers.antt", "p = q\n"))
         self.assertTrue(self.changes("wrong-bodies/three.edit", "file: src/lib.rt\nold: 2\nnew: 4\n"))
 
+    def test_another_toolchain_changes_it(self) -> None:
+        self.assertTrue(self.changes("KIT-ID", "kit 2\n"))
+
     def test_a_crate_is_recorded_beside_the_others(self) -> None:
         root = f"{self.crate.folder}/repository"
         os.makedirs(f"{root}/tests")
-        other = SimpleNamespace(folder=self.crate.folder, name="amo_one")
+        other = SimpleNamespace(folder=self.crate.folder, name="amo_one", kit=self.crate.kit)
         self.assertEqual(turns.tried(root), {})
         turns.write(root, [other])
         turns.write(root, [self.crate])
@@ -72,7 +76,7 @@ class Turns(unittest.TestCase):
     """Which bodies have their turn."""
 
     def test_each_body_has_one_turn(self) -> None:
-        bodies = [body(f"f{it}") for it in range(60)]
+        bodies = [body(f"f{it}") for it in range(200)]
         crate = SimpleNamespace(name="amo_two")
         drawn = [turns.chosen(crate, bodies, part) for part in range(turns.PARTS)]
         self.assertEqual(sorted(map(id, sum(drawn, []))), sorted(map(id, bodies)))

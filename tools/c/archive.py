@@ -1,10 +1,12 @@
 #!/usr/bin/env python3
-"""Proves and builds the C library, crates/amo_c/out/libamo_c.a, where it isn't newer than its sources and the libraries below it.
+"""Proves and builds the C library, crates/amo_c/out/libamo_c.a, unless it is current.
 
   archive.py
 
-The libraries below are taken as `rt ci` or `tools/build` left them, and made where one is missing or older than its sources.
-`rt lib` would prove those of `rt ci` again, and take them away meanwhile from whoever reads them beside it.
+It is current if it is newer than its sources and the libraries below it. The libraries below are
+taken as `rt ci` or `tools/build` left them, and made if one is missing or older than its sources.
+`rt lib` would prove those of `rt ci` again, and take them away meanwhile from other processes that
+read them.
 """
 
 import os

@@ -1,12 +1,14 @@
 #!/usr/bin/env python3
-"""Crews of the example programs over one file, killed by SIGKILL and begun again, and what they wrote.
+"""Crews of the example programs over one file, killed by SIGKILL and begun again, and what they
+wrote.
 
   crews.py LIBRARY FOLDER RUNS SEED COMMAND..
 
-Each COMMAND is what starts an example, as crew or amo.py with its library; it is given FILE JOBS WORKERS P. Each worker is worked
-by one of them, drawn at random, and once that has its lock a second process waits for its death. The files lie in FOLDER.
-No job may be written twice; each filed job is written, or said to be in doubt; and at least the bound is filed. The last line
-says how many jobs were written; the status is 0 where all was so.
+Each COMMAND starts an example, as crew or amo.py with its library; it is given FILE JOBS WORKERS P.
+One of them, drawn at random, works as each worker, and once that has its lock a second process
+waits for its death. The files lie in FOLDER. No job may be written twice. Each filed job is
+written, or reported as in doubt. At least the bound is filed. The last line has the number of
+written jobs; the status is 0 if all was so.
 """
 
 import fcntl
@@ -24,7 +26,7 @@ import amo
 
 
 class Wrong(Exception):
-    """What is wrong with a run."""
+    """A mistake in a run."""
 
 
 def want(so, what):
@@ -41,8 +43,8 @@ class Process:
         self.run, self.lines = subprocess.Popen([*shlex.split(command), *words], **pipes), []
 
     def wait_to_hold(self, path):
-        """Waits until it holds the lock on this file, or has ended. (Were the second process first, a kill of the first one would
-        leave a job in hand with nobody to come back.)"""
+        """Waits until it holds the lock on this file, or has ended. (Were the second process first,
+        a kill of the first one would leave a job in hand with nobody to come back.)"""
         with open(path, "a") as lock:
             while self.run.poll() is None:
                 try:
@@ -59,7 +61,8 @@ class Process:
         self.run.kill()
 
     def end(self):
-        """What it performed, and what it found in doubt."""
+        """Waits for its end, and returns the jobs that it performed, and those that it found in
+        doubt."""
         out, err = self.run.communicate()
         want(self.run.returncode in (0, -9), f"status {self.run.returncode}: {err.decode()}")
         jobs = [int(line.split()[1]) for line in [*self.lines, *out.splitlines()]]

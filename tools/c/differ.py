@@ -27,7 +27,7 @@ import amo
 
 
 class Wrong(Exception):
-    """What is wrong with a run."""
+    """A mistake in a run."""
 
 
 def want(so, what):
@@ -36,7 +36,7 @@ def want(so, what):
 
 
 def as_access(item):
-    """The first access of an item of a batch, as amo_next tells it."""
+    """Returns the first access of an item of a batch, in the form of amo_next."""
     return (amo.STORE, item.word, item.value) if item.access == amo.STORE else (amo.LOAD, item.word, 0)
 
 
@@ -139,7 +139,7 @@ def moves_of(schedule, workers, rounds):
 
 
 def followed(library, draws, schedule, rounds):
-    """The lines of a report that say what happened, and how many accesses were made."""
+    """Returns the lines of a report that say what happened, and how many accesses were made."""
     workers, events, words = library.givens.workers, [], [0] * library.word_count()
     crew = [Worker(library, words, p, events) for p in range(1, workers + 1)]
     for kind, p in moves_of(schedule, workers, rounds):
@@ -153,7 +153,7 @@ def followed(library, draws, schedule, rounds):
 
 
 def replayed(command, jobs, workers, beta, schedule, rounds):
-    """The same lines of the report of this plan."""
+    """Returns the same lines of the report of this plan."""
     plan = [f"version = 2\nworkers = {workers}\nbeta = {beta}\nrounds = {rounds}\nschedule = \"{' '.join(schedule)}\""]
     plan += [f'[[job]]\nname = "job{job}"\nsay = ""' for job in range(1, jobs + 1)]
     ran = subprocess.run(shlex.split(command), input="\n".join(plan), capture_output=True, text=True)

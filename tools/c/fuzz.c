@@ -55,7 +55,7 @@ static int is_item(const amo_item_t *item, const amo_givens_t *givens, int loads
   return item->access == AMO_LOAD_ROW && item->word <= item->value && item->value < words;
 }
 
-/* Whether the first item of a batch is the access that amo_next tells. */
+/* Returns whether the first item of a batch is the access of amo_next. */
 static int is_first(const amo_item_t *item, const amo_next_t *next) {
   if (item->access == AMO_STORE)
     return next->access == AMO_STORE && item->word == next->word && item->value == next->value;
@@ -76,7 +76,7 @@ static void ask(asked_t *it) {
   it->code = amo_next(&it->givens, it->worker, it->heard, it->len, &it->next);
 }
 
-/* Whether what amo_next wrote is within its limits, or nothing was written where it told nothing. */
+/* Returns whether the values of amo_next are within their limits, or nothing was written if it returned none. */
 static int is_answer(const asked_t *it) {
   amo_next_t untouched;
   memset(&untouched, UNTOUCHED, sizeof untouched);
@@ -103,7 +103,7 @@ static void hear_in_order(asked_t *it) {
     it->heard[below(it->len)] = below(21);
 }
 
-/* Whether amo_batch answers as amo_next did, its items are within their limits, and places beyond them are untouched. */
+/* Returns whether amo_batch answers as amo_next did, its items are within their limits, and places beyond them are untouched. */
 static int is_batch(const asked_t *it) {
   amo_item_t items[ROOM], untouched;
   amo_next_t same;
@@ -122,7 +122,7 @@ static int is_batch(const asked_t *it) {
   return holds;
 }
 
-/* Whether amo_leave answers as it has to where amo_next answered so. */
+/* Returns whether amo_leave answers as it must after this answer of amo_next. */
 static int is_leave(const asked_t *it) {
   amo_next_t leaving;
   uint32_t answer = amo_leave(&it->givens, it->worker, it->heard, it->len, &leaving);

@@ -30,7 +30,7 @@ enum { MOST_JOBS = 300, MOST_WORKERS = 8, ROOM = 100000, NEVER = -1 };
 enum { OVER = 0, LEAVES = 4, FAULTY = 9 }; /* how a process ends by itself */
 enum { BY_NEXT, BY_BATCH, MIXED };
 
-/* What the processes share, and the audit reads: the words, and how often each job was performed and told to be in doubt. */
+/* The memory that the processes share, and the audit reads: the words, and how often each job was performed and told to be in doubt. */
 typedef struct {
   amo_givens_t givens;
   int performs_doubts, forgets;
@@ -149,7 +149,7 @@ static pid_t start(process_t it) {
   return child;
 }
 
-/* How this process ended: OVER, LEAVES, FAULTY, or SIGKILL below 0. */
+/* The end of this process: OVER, LEAVES, FAULTY, or SIGKILL below 0. */
 static int await(pid_t child) {
   int status;
   if (waitpid(child, &status, 0) < 0)

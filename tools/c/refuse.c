@@ -66,7 +66,7 @@ static uint32_t call(int which, const uint64_t *heard, size_t len, written_t *to
   return (which == LEAVE ? amo_leave : amo_next)(&givens, 1, heard, len, &to->next);
 }
 
-/* How often a call requests memory, and for how many bytes. */
+/* Returns how often a call requests memory, and for how many bytes. */
 typedef struct {
   long requests, bytes;
 } asked_t;
@@ -75,7 +75,7 @@ static int are_same(asked_t one, asked_t other) {
   return one.requests == other.requests && one.bytes == other.bytes;
 }
 
-/* What this call requests of this list. */
+/* Returns the requests of this call for this list. */
 static asked_t requests_of(int which, const uint64_t *heard, size_t len) {
   written_t found;
   asked_t before = {requests, bytes};

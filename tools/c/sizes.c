@@ -16,7 +16,7 @@ enum { ROOM = 33, JOBS = 4096, EACH_BELOW = 130, LONGEST = 4098 };
 
 static long tried, wrong;
 
-/* What the three calls have to answer of one list. */
+/* The answers that the three calls must give to one list. */
 typedef struct {
   amo_givens_t givens;
   uint64_t worker, len, count;
@@ -133,7 +133,7 @@ static void try_length(const amo_givens_t *givens, uint64_t p, size_t len) {
   tried++;
 }
 
-/* Whether lists of this length are tried beyond the small ones: those next to multiples of 200 and of
+/* Returns whether lists of this length are tried beyond the small ones: those next to multiples of 200 and of
    256, and the multiples of 97, as tests/amo_test_sizes has it. */
 static int is_tried(size_t len) {
   return (len + 2) % 200 < 5 || (len + 2) % 256 < 5 || len % 97 == 0;

@@ -1,11 +1,14 @@
 #!/usr/bin/env -S python3 -S
-"""Stands between a runner and its worker, hands on each line, and kills or stops somebody at one moment.
+"""Stands between a runner and its worker, hands on each line, and kills or stops somebody at one
+moment.
 
-AMO_REAL is the program of the worker. AMO_ROOM has `effects`, and `moments`, which counts them over all workers of a run: before
-and after each line of the worker is handed on, once the command has begun and once it did its work, and before and after each
-answer is handed on. AMO_ROOM/lives has the number of each worker that is started, AMO_ROOM/overs what workers were answered that wait
-for the next round. AMO_PLAN is NUMBER:WHO+WHO, of supervisor, runner, worker and command, each with `~` before it where it is
-stopped for a while, and for as long as there is a file AMO_ROOM/held."""
+AMO_REAL is the program of the worker. AMO_ROOM has `effects`, and `moments`, which counts them over
+all workers of a run: before and after each line of the worker is handed on, once the command has
+begun and once it did its work, and before and after each answer is handed on. AMO_ROOM/lives has
+the number of each worker that is started. AMO_ROOM/overs has the replies to workers that wait for
+the next round. AMO_PLAN is NUMBER:WHO+WHO, of supervisor, runner, worker and command, each with `~`
+before it if it is stopped for a while, and for as long as there is a file AMO_ROOM/held.
+"""
 
 import contextlib
 import fcntl
@@ -39,7 +42,7 @@ def note(name, text):
 
 
 def number():
-    """The number of this moment."""
+    """Returns the number of this moment."""
     with open(f"{ROOM}/moments", "a+") as file:
         fcntl.flock(file, fcntl.LOCK_EX)
         file.seek(0)
@@ -49,7 +52,7 @@ def number():
 
 
 def parent_of(process):
-    """The number of this process's parent."""
+    """Returns the number of this process's parent."""
     return int(read(f"/proc/{process}/stat").rpartition(")")[2].split()[1])
 
 
@@ -89,7 +92,7 @@ def moment(worker, name, line, kind):
 
 
 def is_over(lock):
-    """Whether the runner has answered, or is gone, and nothing of the command is left."""
+    """Returns whether the runner has answered, or is gone, and nothing of the command is left."""
     return bool(select.select([0], [], [], 0)[0]) and not os.path.exists(lock)
 
 

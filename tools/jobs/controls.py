@@ -1,8 +1,8 @@
-"""Controls: amo_jobs, or the stand-in for its worker, makes a mistake, and a test has to show it."""
+"""Controls: amo_jobs, or the stand-in for its worker, makes a mistake, and a test must show it."""
 
 import os
-import re
 
+from harness import bench as harness
 from jobs import (
     crews, forgetting, held, identity, limits, rules, scene, spoiled, staying, unseen, ways
 )
@@ -149,18 +149,8 @@ def named(control, name, test):
 
 
 def shown(bench, name, test, wanted):
-    """What the test says of the mistake. Where a race decides, it may take some tries."""
-    wrong = None
-    for _ in range(4):
-        try:
-            test(bench)
-        except scene.Wrong as found:
-            wrong = str(found)
-            break
-        finally:
-            bench.close()
-    scene.want(wrong, f"{name} shows nothing in: {test.__doc__}")
-    scene.want(re.search(wanted, wrong), f"{name} shows something else: {wrong}")
+    """Returns what the test says of the mistake."""
+    wrong = harness.shown(name, test, lambda: bench, wanted, 4)
     return "shown: " + wrong.split(";")[0].replace("\n", " ")[:110]
 
 

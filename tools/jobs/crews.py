@@ -8,7 +8,7 @@ import signal
 import time
 from contextlib import suppress
 
-from jobs.rules import until
+from harness.bench import until
 from jobs.scene import DONE, DOUBTFUL, FAILED, LATER, LEFT, copy_program, want
 from worker import folder
 
@@ -16,19 +16,20 @@ COUNTS = 'echo "$1" >> "$0/performed"; '
 
 
 def performed(scene) -> int:
-    """How many commands have begun that count themselves."""
+    """Returns how many commands have begun that count themselves."""
     return len(folder.read(f"{scene.room}/performed").split())
 
 
 def runner_of(scene, worker: int) -> int:
-    """The process of a runner; 0 if it has none."""
+    """Returns the process of a runner; 0 if it has none."""
     with suppress(OSError, ValueError), open(f"{scene.run}/runner.{worker}") as file:
         return int(file.read())
     return 0
 
 
 def listed(bench, lines: int, script: str, workers: int, *options: str):
-    """A run of so many lines, of which each counts itself and then does this; and its crew."""
+    """Returns a run of so many lines, of which each counts itself and then does this; and its
+    crew."""
     scene = bench.scene([], workers, options)
     with open(scene.jobs, "w") as file:
         file.write("".join(f"{line}\n" for line in range(1, lines + 1)))
@@ -76,7 +77,7 @@ def try_runner_comes_back(bench):
 
 
 def try_crew_beside_an_earlier_runner(bench):
-    """a new crew works with the numbers that it has, beside a runner of an earlier one"""
+    """a new crew works with the numbers that it has, while a runner of an earlier one lives"""
     scene, crew = listed(bench, 12, 'while ! [ -e "$0/$1" ]; do sleep 0.02; done', 2)
     until(lambda: performed(scene) == 2, "two commands have begun")
     first = folder.read(f"{scene.room}/performed").split()[0].decode()

@@ -1,5 +1,5 @@
-"""Supervisor, runner, worker and command killed, or stopped for longer than a restart takes, at each line of the protocol in turn,
-each alone and together."""
+"""Supervisor, runner, worker and command are killed, or stopped for longer than a restart takes, at
+each line of the protocol in turn, each alone and together."""
 
 import re
 from concurrent.futures import ThreadPoolExecutor
@@ -50,7 +50,7 @@ def see_befall(bench, scene, number, who):
 
 
 def moments(bench, kinds, workers):
-    """How many moments a run has in which nothing befalls anybody."""
+    """Returns how many moments a run has in which nothing befalls anybody."""
     scene = bench.scene(kinds, workers)
     scene.ends(scene.start(plan="0:runner"), FAILED)
     scene.audit()
@@ -78,7 +78,8 @@ def each_moment(bench, whos, kinds, workers, count):
 
 
 def try_killed(bench):
-    """killed at each line in turn: no line is performed twice, each doubt is told, and no end that was seen is lost"""
+    """killed at each line in turn: no line is performed twice, each doubt is reported, and no end
+    that was seen is lost"""
     return each_moment(bench, WHO, KINDS, 1, 24)
 
 

@@ -75,7 +75,7 @@ static struct {
   const char *kind;
 } begun[MOST_PROCESSES];
 
-/* Whether a word of this process begins so. */
+/* Returns whether a word of this process begins so. */
 static int has_word(const char *start) {
   char words[16384];
   int file = syscall(SYS_openat, AT_FDCWD, "/proc/self/cmdline", O_RDONLY | O_CLOEXEC);

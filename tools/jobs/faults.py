@@ -16,7 +16,7 @@ from concurrent.futures import ThreadPoolExecutor
 from time import monotonic
 from typing import Callable, NamedTuple
 
-from jobs.rules import until
+from harness.bench import until
 from jobs.scene import DONE, DOUBTFUL, FAILED, LATER, LEFT, Scene, Wrong, changed, want
 from worker import folder
 
@@ -379,7 +379,7 @@ NOT = "line 1: cannot start `COMMAND`:"
 
 
 class Row(NamedTuple):
-    """What follows if one call fails with one error."""
+    """A row of the table: the consequences if one call fails with one error."""
     call: str
     count: int
     error: str

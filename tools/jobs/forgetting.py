@@ -8,7 +8,7 @@ from jobs.identity import (
     Begun, begun, check, crew, forget, goes_on, id_in, is_put_away, is_refused, mark_of, performed,
     runs_anew, steps_of, waiting, WAITS, within, words_of,
 )
-from jobs.rules import until
+from harness.bench import until
 from jobs.scene import DONE, KILLED, LATER, READ, REFUSED, Scene, want
 from worker import folder
 
@@ -83,7 +83,7 @@ def try_forget_doubts(bench):
 
 
 def try_forget_mounted(bench):
-    """a folder that can't be renamed stays where it is, and no crew takes it"""
+    """a folder that can't be renamed stays in its place, and no crew takes it"""
     scene = begun(bench, is_over=True)
     with open(scene.jobs) as file:
         old, text = id_in(scene.run), file.read()

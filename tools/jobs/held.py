@@ -14,7 +14,7 @@ import time
 from typing import Callable
 
 from jobs.crews import listed, performed
-from jobs.rules import until
+from harness.bench import until
 from jobs.scene import DONE, FAILED, LEFT, Bench, Scene, want
 from jobs.spoiled import status_of
 
@@ -86,7 +86,7 @@ def two_begun(bench: Bench, lines: int, script: str,
 
 def try_full_pipe(bench: Bench) -> str:
     """the supervisor stands still until the pipes of its runners are full: they go on until then
-    and wait between two lines, and after that each end is told"""
+    and wait between two lines, and after that each end is reported"""
     scene, crew = two_begun(bench, LINES, "exit 75", "--untouched", "75")
     runners = list(scene.runners())
     for it in runners:

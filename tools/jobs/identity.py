@@ -10,7 +10,7 @@ import shutil
 import signal
 import subprocess
 
-from jobs.rules import until
+from harness.bench import until
 from jobs.scene import DONE, FAILED, HERE, KILLED, LEFT, READ, REFUSED, WRITE, Scene, want
 from worker import folder, journals
 
@@ -70,11 +70,11 @@ class Begun:
         scene.crews.append(self.process)
 
     def told(self) -> str:
-        """Returns what it has said until now."""
+        """Returns its output until now."""
         return folder.read(self.path).decode("utf-8", "replace")
 
     def end(self, *statuses: int) -> str:
-        """Wants it to end, with one of these statuses if there are any; returns what it said."""
+        """Waits for its end, with one of these statuses if there are any; returns its output."""
         ended = self.process.wait(300)
         told = self.told()
         want(not statuses or ended in statuses, f"status {ended}, not {statuses}: {told[-600:]}")

@@ -1,6 +1,6 @@
 """Limits on open files, on processes and on memory, which are set for a runner or for its
-supervisor while commands run. No line is performed twice. What isn't done is open or in doubt, and
-the next crew, which has no limit, finishes the list."""
+supervisor while commands run. No line is performed twice. A line that isn't done is open or in
+doubt, and the next crew, which has no limit, finishes the list."""
 
 from __future__ import annotations
 
@@ -13,7 +13,7 @@ import subprocess
 import sys
 from typing import Callable, NamedTuple
 
-from jobs.rules import until
+from harness.bench import until
 from jobs.scene import BUILD, DONE, DOUBTFUL, LEFT, READ, WRITE, Bench, Scene, want
 from jobs.spoiled import audit_lines, begun_by, status_of
 from jobs.unseen import fed, is_not_listed, runner_of
@@ -63,7 +63,7 @@ class OtherUser(Scene):
 
 
 def scene_of(bench: Bench, limit: Limit) -> Scene | None:
-    """Returns a run for this limit; None, and says so, if the limit can't hold here."""
+    """Returns a run for this limit, or None if the limit can't hold here, which it notes."""
     kinds = ["gated"] * LINES
     if limit is not PROCESSES or os.getuid() != 0:
         return bench.scene(kinds, 2)
@@ -83,8 +83,8 @@ def set_limit(scene: Scene, process: int, limit: Limit, is_lifted: bool = False)
 
 
 def try_limit(bench: Bench, limit: Limit) -> None:
-    """Sets the limit of a runner, which then can't start a command, but for that on memory; and of
-    a supervisor whose runner is killed, which then can't start another one."""
+    """Sets a limit twice. A runner with it can't start a command, unless the limit is on memory. A
+    supervisor with it, whose runner is killed, can't start another one."""
     for who in WHO:
         scene = scene_of(bench, limit)
         if scene is None:

@@ -1,5 +1,6 @@
 #!/usr/bin/env -S python3 -S
-"""tools/worker/stand_in.py with a mistake, which AMO_MISTAKE names: one of its own, or one of those here."""
+"""tools/worker/stand_in.py with a mistake that AMO_MISTAKE names: one of its own, or one of those
+here."""
 
 import os
 import sys

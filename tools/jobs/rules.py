@@ -2,22 +2,14 @@
 
 import os
 import signal
-import time
 
+from harness.bench import until
 from jobs.scene import DONE, DOUBTFUL, LATER, LEFT, want
 
 
-def until(is_so, what, seconds=240):
-    """Waits for something, far longer than a loaded machine needs for it."""
-    end = time.monotonic() + seconds
-    while not is_so():
-        want(time.monotonic() < end, f"it never is so: {what}")
-        time.sleep(0.01)
-
-
 def orphan(bench, kind="waits"):
-    """A run whose supervisor and runner were killed after a command had begun, which waits before it
-    does anything; and that command's process."""
+    """Returns a run whose supervisor and runner were killed after a command had begun, which waits
+    before it does anything; and that command's process."""
     scene = bench.scene([kind, "quick", "quick"])
     crew = scene.start()
     until(lambda: scene.tales(1), "the command has begun")
@@ -37,7 +29,8 @@ def look_on(scene):
 
 
 def try_orphan(bench):
-    """a command whose runner was killed is running, for the next runner and for who asks, until nothing of it is left"""
+    """a command whose runner was killed is running, for the next runner and for who asks, until
+    nothing of it is left"""
     scene, command = orphan(bench)
     scene.person()
     status = look_on(scene)
@@ -51,7 +44,7 @@ def try_orphan(bench):
 
 
 def try_words_lost(bench):
-    """where the words are lost a new round is begun, and what runs is no part of it"""
+    """if the words are lost a new round is begun, and no running command is a part of it"""
     scene, command = orphan(bench)
     os.unlink(f"{scene.run}/words")
     look_on(scene)
@@ -87,7 +80,8 @@ def try_two_persons(bench):
 
 
 def try_late_line(bench):
-    """what a worker said that is dead by the time it is read is dropped, and was certainly not begun"""
+    """a line of a worker that is dead by the time it is read is dropped, and was certainly not
+    begun"""
     scene = bench.scene(["slow"] * 6)
     scene.see_out(scene.start(plan="2:~runner+worker"))
     scene.audit()
@@ -95,8 +89,8 @@ def try_late_line(bench):
 
 
 def try_two_crews(bench):
-    """while a runner is stopped nobody else is the runner of its worker, so that no end that it saw is
-    lost; a second crew is refused, and one after the supervisor's death waits for the number"""
+    """while a runner is stopped nobody else is the runner of its worker, so that no end that it saw
+    is lost; a second crew is refused, and one after the supervisor's death waits for the number"""
     scene = bench.scene(["quick", "quick"])
     scene.let("held")
     crew = scene.start(plan="5:~runner+worker")
@@ -116,7 +110,8 @@ def try_two_crews(bench):
 
 
 def try_left_behind(bench):
-    """what a shell leaves behind with & has the lock, and its line is neither done nor a doubt before that ends"""
+    """a process that a shell leaves running with & has the lock, and its line is neither done nor a
+    doubt before that ends"""
     scene = bench.scene(["waits_amp", "quick"])
     crew = scene.start()
     until(lambda: crew.poll() is not None or scene.tales(2), "its worker has gone on")
@@ -147,7 +142,7 @@ def try_closed(bench):
 
 
 def try_kept(bench):
-    """an end that a runner saw is told to the next worker, where the one before died with the answer"""
+    """an end that a runner saw goes to the next worker, if the one before died with the answer"""
     for moment in (5, 6):
         scene = bench.scene(["slow", "quick"])
         scene.see_out(scene.start(plan=f"{moment}:worker"))
@@ -157,7 +152,8 @@ def try_kept(bench):
 
 
 def try_noted_after_all(bench):
-    """a runner whose worker died with an answer ends only once a next one has noted it, though a stop was asked for"""
+    """a runner whose worker died with an answer ends only once a next one has noted it, though a
+    stop was asked for"""
     scene = bench.scene(["waits", "quick"])
     crew = scene.start(plan="5:worker")
     until(lambda: scene.tales(1), "the command has begun")

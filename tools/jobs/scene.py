@@ -1,11 +1,11 @@
-"""What the parts of tools/kill_jobs share: a run of amo_jobs in a folder of its own, whose commands write down what they do, a
-person who looks at each listed doubt and answers truthfully at once, and the audit of it all."""
+"""The common parts of the tests of tools/kill_jobs: a run of amo_jobs in a folder of its own, a
+person and an audit. The commands write down what they do. The person looks at each listed doubt and
+answers truthfully at once. qa/harness has the parts that other tools need too."""
 
 import compileall
 import glob
 import json
 import os
-import random
 import re
 import shutil
 import signal
@@ -15,6 +15,8 @@ import tempfile
 import time
 from typing import List
 
+from harness import bench as harness
+from harness.bench import Wrong, spread, want
 from worker import folder
 
 HERE = os.path.dirname(os.path.realpath(__file__))
@@ -26,19 +28,11 @@ UNHEARD = (-signal.SIGHUP, -signal.SIGTERM, -signal.SIGINT, 130)  # of a signal 
 COMMAND = [f"{HERE}/act.sh"]
 
 
-class Wrong(Exception):
-    """What is wrong with the program."""
-
-
-def want(so, what):
-    if not so:
-        raise Wrong(what)
-
-
 def compiled(program: str, room: str) -> str:
-    """Copies amo_jobs with its package, or the folder of a worker in Python, into a new folder, and
-    compiles it there, with its part in C; returns the path of the copy. (They compile their modules at each start, and
-    write nothing into their own folders. A run of these tests starts thousands.)"""
+    """Copies amo_jobs with its package, or the folder of a worker in Python, into a new folder,
+    and compiles it there, with its part in C. Returns the path of the copy. (They compile their
+    modules at each start, and write nothing into their own folders. A run of these tests starts
+    thousands.)"""
     top = os.path.dirname(os.path.realpath(program))
     if program.endswith(".py"):
         shutil.copytree(top, room)
@@ -74,13 +68,13 @@ def changed(program: str, room: str, pairs: list) -> str:
     return f"{room}/{os.path.basename(program)}"
 
 
-class Bench:
-    """What is tried: amo_jobs and a worker, in a folder."""
+class Bench(harness.Bench):
+    """A bench with amo_jobs and a worker."""
 
     def __init__(self, program, worker, room, is_long, seed, mistake=None):
-        self.program, self.worker, self.room = os.path.abspath(program), os.path.abspath(worker), os.path.realpath(room)
-        self.is_long, self.seed, self.draws, self.mistake = is_long, seed, random.Random(seed), mistake
-        self.scenes, self.skipped, self.end, self.counts = [], [], None, {}
+        super().__init__(room, is_long, seed)
+        self.program, self.worker = os.path.abspath(program), os.path.abspath(worker)
+        self.mistake, self.scenes = mistake, []
         self.made: List[Scene] = []
         self.dropped: list = []  # what came of the logs of scenes whose files are gone
         self.kills = 0  # how many kills a test has to make that counts them
@@ -95,18 +89,10 @@ class Bench:
             it.close()
         self.scenes.clear()
 
-    def has_time(self):
-        return self.end is None or time.monotonic() < self.end
-
-    def add(self, name, more=1):
-        self.counts[name] = self.counts.get(name, 0) + more
-
     def sample(self, whole, count):
-        """All of these in the long form, in some order; else so many of them, spread."""
+        """Returns all of these in the long form, in some order; else so many of them, spread."""
         whole = list(whole)
-        if self.is_long:
-            return self.draws.sample(whole, len(whole))
-        return [whole[k * len(whole) // count] for k in range(count)] if len(whole) > count else whole
+        return self.draws.sample(whole, len(whole)) if self.is_long else spread(whole, count)
 
 
 class Scene:
@@ -152,7 +138,7 @@ class Scene:
                 "--worker-program", worker, *(["--file-system", self.file_system] if self.file_system else []), *words]
 
     def start(self, *more, plan=None, workers=None, command=None, **how):
-        """Starts a crew. What it says goes to a file."""
+        """Starts a crew. Its output goes to a file."""
         self.bench.add("crews")
         self.numbers, self.known = workers or self.workers, len(self.kinds)
         words = ["--workers", str(self.numbers), *self.options, *more, self.jobs, "--", *(command or self.command)]
@@ -163,7 +149,7 @@ class Scene:
         return crew
 
     def tale(self):
-        """What the crews have said."""
+        """Returns the output of the crews."""
         return folder.read(f"{self.room}/said").decode("utf-8", "replace")
 
     def ends(self, crew, status, seconds=240):
@@ -175,7 +161,7 @@ class Scene:
         want(found == status, f"status {found} in place of {status}: {self.tale()[-500:]}")
 
     def call(self, command, *words, status=DONE):
-        """A command for persons: what it writes. None in place of a status takes any."""
+        """Returns a command for persons: what it writes. None in place of a status takes any."""
         ran = subprocess.run(self.words(command, *words), stdin=subprocess.DEVNULL,
                              capture_output=True, timeout=240, env=self.environment())
         want(status in (None, ran.returncode), f"{command}: status {ran.returncode}: {(ran.stdout + ran.stderr).decode()[-500:]}")
@@ -197,7 +183,7 @@ class Scene:
             file.write(f"{text}\n")
 
     def tales(self, line):
-        """What the commands of a line and the person have written down, each a list of words."""
+        """Returns the notes of the commands of a line and of the person, each a list of words."""
         return [it.split(" ") for it in folder.read(f"{self.effects}/{line}").decode().splitlines()]
 
     def may_doubt(self) -> bool:
@@ -215,7 +201,8 @@ class Scene:
             self.person()
 
     def person(self, by_hand=0.3):
-        """Looks at the effect of each listed doubt, and answers. Some that were not done are done by hand after that."""
+        """Looks at the effect of each listed doubt, and answers. Some that were not done are done
+        by hand after that."""
         if not os.path.exists(f"{self.run}/jobs"):
             return 0
         found = re.findall(r"^(\d+\.\d+), line (\d+): (.*)$", self.call("doubts"), re.M)
@@ -234,8 +221,8 @@ class Scene:
         return len(found)
 
     def answer(self, name: str, line: str, text: str, verdict: str, seconds=240):
-        """Answers a doubt; again where a crew that begins holds it just now. What is done here arrives
-        at once, so `not-done` needn't wait."""
+        """Answers a doubt, and again if a crew that begins holds it just now. A request here
+        arrives at once, so `not-done` needn't wait."""
         end = time.monotonic() + seconds
         words = self.words("answer", *(["--now"] if verdict == "not-done" else []), "--", name, line,
                            text, verdict)
@@ -249,7 +236,8 @@ class Scene:
 
     def see_out(self, crew=None, seconds=600, pause=0.3, again=True, during=None,
                 workers_of=lambda: None):
-        """Starts crews, with a person beside them, until no line is open, in doubt or running; the status of the last one."""
+        """Starts crews, with a person who answers, until no line is open, in doubt or running.
+        Returns the status of the last one."""
         end = time.monotonic() + seconds
         crew = crew or self.start(workers=workers_of())
         while True:
@@ -275,7 +263,7 @@ class Scene:
             crew = self.start(workers=workers_of())
 
     def audit(self):
-        """What no run may show."""
+        """Raises Wrong if the run shows what no run may show."""
         for line in range(1, len(self.kinds) + 1):
             self.audit_line(line, self.tales(line))
         try:
@@ -310,7 +298,8 @@ class Scene:
                 want(not later or later == [["did", "by-hand"]], f"performed after it was answered done: line {line}: {told}")
 
     def close(self):
-        """Ends what is left: crews, and their workers and commands, which know the folder by their words."""
+        """Ends what is left: crews, and their workers and commands, which know the folder by their
+        words."""
         for it in self.crews:
             if it.poll() is None:
                 it.kill()
@@ -339,30 +328,24 @@ class Scene:
                 pass
 
     def runners(self):
-        """The runners of a crew: their words have the supervisor's version."""
+        """Returns the runners of a crew: their words have the supervisor's version."""
         with open(f"{os.path.dirname(self.bench.program)}/VERSION") as file:
             return self.processes(f"--as={file.read().strip()}")
 
     def tellers(self, crew):
-        """The process by which a crew reports to others: it has the crew's words."""
+        """Returns the process by which a crew reports to others: it has the crew's words."""
         return sorted(set(self.processes("crew")) - {crew.pid})
 
     def worker_processes(self):
-        """The processes of workers."""
+        """Returns the processes of workers."""
         return sorted(set(self.processes("work")) - set(self.runners()))
 
     def commands(self):
-        """The processes of commands, whose path the words of crews and runners have too."""
+        """Returns the processes of commands, whose path the words of crews and runners have too."""
         own = {*self.processes("crew"), *self.processes("work")}
         return sorted(set(self.processes(self.command[0])) - own)
 
     def processes(self, word=""):
-        """The processes that have this run's folder, and this word, in their command line."""
-        for process in filter(str.isdecimal, os.listdir("/proc")):
-            try:
-                with open(f"/proc/{process}/cmdline", "rb") as file:
-                    words = file.read().decode("utf-8", "replace").split("\0")
-            except OSError:
-                continue
-            if any(it.startswith(f"{self.room}/") or it == self.room for it in words) and (not word or word in words):
-                yield int(process)
+        """Yields the processes that have this run's folder, and this word, in their command
+        line."""
+        return harness.processes_of(self.room, *([word] if word else []))

@@ -4,9 +4,9 @@ No test here depends on which process is faster: a command waits until the test 
 import os
 import re
 import subprocess
-import time
 from typing import List, Optional
 
+from harness.bench import until
 from jobs.scene import REFUSED, Bench, Scene, Wrong, want
 from worker import folder
 from worker.headers import FILES
@@ -16,14 +16,6 @@ from worker.scene import SENSELESS
 LINES = 8
 LONGEST = 240  # seconds, far longer than a loaded machine needs for anything here
 READABLE = ("record", "jobs", *FILES)  # what `status --damaged` shows
-
-
-def until(is_so, what: str) -> None:
-    """Waits for something."""
-    end = time.monotonic() + LONGEST
-    while not is_so():
-        want(time.monotonic() < end, f"it never is so: {what}")
-        time.sleep(0.01)
 
 
 def flip(path: str, place: int, bit: int) -> None:
@@ -37,8 +29,8 @@ def flip(path: str, place: int, bit: int) -> None:
 
 
 def refused_file(run: str) -> Optional[str]:
-    """The file of a run by which everybody has to refuse it; None if a crew may go on. Nobody
-    writes there meanwhile."""
+    """Returns the file of a run by which everybody has to refuse it; None if a crew may go on.
+    Nobody writes there meanwhile."""
     for name in ("id", *folder.PARTS):
         if not os.path.exists(f"{run}/{name}"):
             return name
@@ -64,12 +56,12 @@ def audit_lines(scene: Scene) -> None:
 
 
 def kept(run: str) -> dict:
-    """What the files hold that say which lines are open."""
+    """Returns the contents of the files that decide which lines are open."""
     return {name: folder.read(f"{run}/{name}") for name in READABLE}
 
 
 def status_of(crew: subprocess.Popen) -> int:
-    """The status with which a crew ends."""
+    """Returns the status with which a crew ends."""
     try:
         return crew.wait(LONGEST)
     except subprocess.TimeoutExpired:
@@ -92,8 +84,8 @@ def see_refused(scene: Scene, name: str) -> None:
 
 
 def see_shown(scene: Scene, name: str) -> None:
-    """What can be read is shown: what is wrong with this file, and each attempt that was performed
-    and that stands in another file. No line is called open."""
+    """Wants the readable part to be shown: the fault of this file, and each attempt that was
+    performed and that stands in another file. No line may be called open."""
     shown = scene.call("status", "--damaged", status=REFUSED)
     is_named = re.search(rf"^{re.escape(name)}: .*(damaged|missing)", shown, re.M)
     want(is_named, f"{name} is damaged, and isn't named: {shown[:500]}")
@@ -136,10 +128,10 @@ def begun_by(scene: Scene, attempt: str) -> int:
 
 
 def draw(registers: Registers, first: int, third: int) -> None:
-    """Each register gets a value that a worker may leave there, drawn at random, so that the
-    round's participant 1, which has performed the first line, comes to the third one, and not as
-    the last that it knows. It takes the lowest line that is free for it, as long as there are two.
-    (The registers of participant 2 say which line it wants, and up to the first 0 which it has
+    """Gives each register a value that a worker may leave there, drawn at random. The round's
+    participant 1, which has performed the first line, comes to the third one, and not as the last
+    that it knows. It takes the lowest line that is free for it, as long as there are two. (The
+    registers of participant 2 show which line it wants, and, up to the first 0, which it has
     performed.)"""
     count, shared = registers.givens()
     begin, free = 2 * shared + count + 2, set()
@@ -190,7 +182,7 @@ def try_drawn_registers(bench: Bench) -> None:
 
 
 def place_in(path: str, number: int, where: str) -> int:
-    """A place in a line of the file, which is an append if the file has appends."""
+    """Returns a place in a line of the file, which is an append if the file has appends."""
     lines = folder.read(path).split(b"\n")[:-1]
     begin = sum(len(it) + 1 for it in lines[:number])
     end = begin + len(lines[number])
@@ -205,7 +197,7 @@ DAMAGES = [("journal.1", 0, "record"), ("journal.1", 2, "commit byte"),
 
 def try_damage(bench: Bench) -> str:
     """a bit that is flipped in an append or in the header: a crew refuses the file by its name; in
-    the byte behind the last append, as a crash may leave it: the crew goes on"""
+    the byte after the last append, as a crash may leave it: the crew goes on"""
     scene = bench.scene(["quick"] * 5 + ["stays"])
     crew = scene.start()
     until(lambda: [it for it in scene.tales(6) if it[0] == "did"], "line 6 is performed")

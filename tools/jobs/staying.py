@@ -6,7 +6,7 @@ import re
 import signal
 from typing import List
 
-from jobs.rules import until
+from harness.bench import until
 from jobs.scene import DONE, DOUBTFUL, LEFT, Scene, want
 from worker import folder
 
@@ -14,20 +14,21 @@ RELAYED = "0:runner"  # a plan by which nothing befalls anybody, and all is note
 
 
 def overs(scene: Scene, worker: int) -> List[str]:
-    """What this worker was answered each time that it waited for the next round."""
+    """Returns the replies to this worker, one for each time that it waited for the next round."""
     noted = folder.read(f"{scene.room}/overs").decode().splitlines()
     return [it.split(" ")[1] for it in noted if it.startswith(f"{worker}.over ")]
 
 
 def lives(scene: Scene, worker: int) -> int:
-    """How many processes this worker has had."""
+    """Returns how many processes this worker has had."""
     noted = folder.read(f"{scene.room}/lives").decode().splitlines()
     return noted.count(str(worker))
 
 
 def one_waits(bench, kinds: list):
-    """A crew of two, of which one has a command that waits, and the other one nothing to do: it
-    waits for the next round. Returns the run, the crew, and the number of the one that waits."""
+    """Returns a crew of two, of which one has a command that waits, and the other one nothing to
+    do: it waits for the next round. Returns the run, the crew, and the number of the one that
+    waits."""
     scene = bench.scene(kinds, 2)
     crew = scene.start(plan=RELAYED)
     until(lambda: any(overs(scene, p) for p in (1, 2)), "a worker waits for the next round")
@@ -47,7 +48,7 @@ def try_stays(bench):
 
 
 def try_stop(bench):
-    """a stop while a worker waits for the next round: it is told to leave at once, while a command
+    """a stop while a worker waits for the next round: it is asked to leave at once, while a command
     of another one goes on to its end"""
     scene, crew, idle = one_waits(bench, ["waits", *["quick"] * 7])
     crew.send_signal(signal.SIGTERM)

@@ -58,7 +58,7 @@ class Storm:
         self.scene.audit()
 
     def count(self):
-        """How many workers the next crew has."""
+        """Returns how many workers the next crew has."""
         if self.draws.random() < 0.2:
             self.workers = self.draws.randint(1, 4)
         return self.workers
@@ -246,14 +246,15 @@ class Damage(Storm):
         self.bench.add("flips" if is_flip else "moves")
 
     def place(self, size: int) -> int:
-        """A place in the file. The first line of a header says which version wrote it, and another
-        one is refused in another way."""
+        """Returns a place in the file. The first line of a header says which version wrote it, and
+        another one is refused in another way."""
         if self.draws.random() < 0.2:
             return size - 1
         return self.draws.randrange(len(VERSION) if self.name == "record" else 0, size)
 
     def goes_on(self) -> bool:
-        """Whether a crew may go on: nothing is damaged, or the file that was moved is put back."""
+        """Returns whether a crew may go on: nothing is damaged, or the file that was moved is put
+        back."""
         let_end(self.scene)
         path, refused = f"{self.scene.run}/{self.name}", refused_file(self.scene.run)
         if refused:

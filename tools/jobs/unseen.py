@@ -1,5 +1,5 @@
-"""What a command leaves behind that holds none of its descriptors. Its runner sees it, the supervisor
-sees it once that runner is killed, and nobody does if both are."""
+"""Processes that a command leaves running and that hold none of its descriptors. The runner sees
+them, the supervisor sees them once that runner is killed, and nobody does if both are."""
 
 import os
 import re
@@ -8,7 +8,7 @@ import signal
 import subprocess
 from typing import Tuple
 
-from jobs.rules import until
+from harness.bench import until
 from jobs.scene import DONE, DOUBTFUL, LATER, Scene, want
 
 JAVA = """public class Pay {
@@ -20,8 +20,8 @@ JAVA = """public class Pay {
 
 
 def fed(bench, kind="fed", **how) -> Tuple[Scene, object, int, int]:
-    """A crew whose first command feeds a helper and waits for it. Returns the run, the crew, and the
-    processes of command and helper."""
+    """Returns a crew whose first command feeds a helper and waits for it. Returns the run, the
+    crew, and the processes of command and helper."""
     scene = bench.scene([kind, "quick"], **how)
     if kind == "java":
         with open(f"{scene.room}/Pay.java", "w") as file:
@@ -34,13 +34,14 @@ def fed(bench, kind="fed", **how) -> Tuple[Scene, object, int, int]:
 
 
 def runner_of(scene: Scene, worker: int = 1) -> int:
-    """The process that has signed the lock of this number."""
+    """Returns the process that has signed the lock of this number."""
     with open(f"{scene.run}/runner.{worker}") as file:
         return int(file.read())
 
 
 def is_not_listed(scene: Scene, helper: int) -> None:
-    """Wants the line to be running: nobody lists it, no answer is taken, and the helper is named."""
+    """Wants the line to be running: nobody lists it, no answer is taken, and the helper is
+    named."""
     scene.person()
     want(not scene.listed, f"it is listed while process {helper} runs: {scene.listed}")
     scene.call("answer", "--now", "1.1", "1", f"1 {scene.kinds[0]}", "not-done", status=LATER)
@@ -49,8 +50,8 @@ def is_not_listed(scene: Scene, helper: int) -> None:
 
 
 def try_fed(bench):
-    """a command that feeds a helper is killed: the line is running until the helper ends, also if the
-    crew would end before"""
+    """a command that feeds a helper is killed: the line is running until the helper ends, also if
+    the crew would end before"""
     kinds = ["fed", "java"] if shutil.which("java") else ["fed"]
     if len(kinds) < 2:
         bench.skipped.append("children of Java, since it isn't there")
@@ -92,8 +93,8 @@ def try_fed_gets_term(bench):
 
 
 def try_runner_killed(bench):
-    """a helper outlives its command and its runner: the supervisor starts no other runner, and nobody
-    lists the line, until the helper ends"""
+    """a helper outlives its command and its runner: the supervisor starts no other runner, and
+    nobody lists the line, until the helper ends"""
     scene, crew, command, helper = fed(bench)
     os.kill(runner_of(scene), signal.SIGKILL)
     os.kill(command, signal.SIGKILL)

@@ -1,5 +1,5 @@
-"""Who watches a run: the report and `status --follow` read without any lock, write nothing, and have the counts of `status`. What
-a crew reports to others has these counts too."""
+"""Watchers of a run: the report and `status --follow` read without any lock, write nothing, and
+have the counts of `status`. The reports of a crew have these counts too."""
 
 import json
 import os
@@ -13,7 +13,7 @@ sys.path.insert(0, f"{os.path.dirname(HERE)}/modules")
 
 import schemas
 
-from jobs.rules import until
+from harness.bench import until
 from jobs.scene import DONE, DOUBTFUL, WRITE, want
 from worker import folder
 
@@ -32,12 +32,12 @@ def checked(schema, value):
 
 
 def report(scene):
-    """What `amo_jobs report --json` prints."""
+    """Returns the output of `amo_jobs report --json`."""
     return checked("report", json.loads(scene.call("report", "--json", scene.jobs)))
 
 
 def followed(scene, *more):
-    """The process of `amo_worker status --follow`."""
+    """Returns the process of `amo_worker status --follow`."""
     words = [scene.bench.worker, "status", scene.run, "--follow", *more, "--boot-id", scene.boot]
     kind = ["--file-system", scene.file_system] if scene.file_system else []
     return subprocess.Popen([*words, *kind], stdin=subprocess.DEVNULL, stdout=subprocess.PIPE,
@@ -45,14 +45,14 @@ def followed(scene, *more):
 
 
 def first_line(scene):
-    """What `amo_worker status --follow --once` prints."""
+    """Returns the output of `amo_worker status --follow --once`."""
     said, told = followed(scene, "--once").communicate(timeout=240)
     want(said.count(b"\n") == 1 and said.endswith(b"\n"), f"{said[:200]}{told[:200]}")
     return checked("follow", json.loads(said))
 
 
 def files_of(run):
-    """Each file of a run: what it holds, and when it was written last."""
+    """Returns each file of a run: what it holds, and when it was written last."""
     return {name: (folder.read(f"{run}/{name}"), os.stat(f"{run}/{name}").st_mtime_ns)
             for name in sorted(os.listdir(run))}
 
@@ -149,7 +149,7 @@ def try_without_a_lock(bench):
 
 
 def changes_of(scene, words):
-    """The calls of a program on the run's folder that take a lock or change something."""
+    """Returns the calls of a program on the run's folder that take a lock or change something."""
     log = f"{scene.room}.strace"
     ran = subprocess.run(["strace", "-f", "-y", "-o", log, "-e", f"trace=open,openat,creat,{CHANGES}",
                           *words], stdin=subprocess.DEVNULL, capture_output=True, timeout=240,
@@ -182,7 +182,8 @@ def try_refusals(bench):
 
 
 def told(scene, crew, status):
-    """What a crew has told others that has ended: its events, its numbers, and its notifications."""
+    """Returns the reports of a crew that has ended: its events, its numbers, and its
+    notifications."""
     want(crew.wait(240) == status, f"{crew.poll()}: {scene.tale()[-500:]}")
     events = [checked("events", json.loads(it)) for it in folder.read(f"{scene.room}/events").splitlines()]
     numbers = dict(re.findall(r'^amo_lines\{run="[^"]*",state="(\w+)"\} (\d+)$',
@@ -191,8 +192,8 @@ def told(scene, crew, status):
 
 
 def try_told(bench):
-    """a crew tells others the counts that `status` has, and each doubt once; it goes on if nothing of
-    that can be written, and if the teller is killed"""
+    """a crew reports the counts that `status` has, and each doubt once; it goes on if nothing of
+    that can be written, and if the reporting process is killed"""
     scene = bench.scene(["quick", "dies", "fail", "nothing", "quick"], 2, ["--untouched", "75,76"])
     options = ["--metrics", f"{scene.room}/numbers", "--events", f"{scene.room}/events", "--notify",
                f'echo "$AMO_EVENT $AMO_LINE" >> {scene.room}/told']
@@ -215,7 +216,8 @@ def try_told(bench):
 
 
 def try_teller_killed(bench):
-    """a teller that is killed changes nothing; one whose supervisor is killed tells the end"""
+    """a reporting process that is killed changes nothing; one whose supervisor is killed reports
+    the end"""
     scene = bench.scene(["slow"] * 6, 2)
     crew = scene.start("--events", f"{scene.room}/events")
     until(lambda: scene.tellers(crew), "the teller lives")

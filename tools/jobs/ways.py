@@ -1,4 +1,5 @@
-"""What commands may do and say, and what amo_jobs makes of it: ends, arguments, signals, timeouts, leftovers, refusals."""
+"""The ways of commands, and how amo_jobs takes them: ends, arguments, signals, timeouts, leftovers,
+refusals."""
 
 import json
 import os
@@ -12,7 +13,7 @@ import sys
 from jobs.scene import (
     BUILD, DONE, DOUBTFUL, FAILED, KILLED, LATER, LEFT, READ, REFUSED, WORDS, WRITE, want
 )
-from jobs.rules import until
+from harness.bench import until
 from worker import folder, journals
 
 
@@ -62,7 +63,8 @@ def try_arguments(bench):
 
 
 def try_refusals(bench):
-    """another command and another folder are refused without their word, and a job within a longer argument always"""
+    """another command and another folder are refused without their word, and a job within a longer
+    argument always"""
     scene = bench.scene(["quick"])
     for command in (["sh", "-c", "send {}"], ["x{}"], ["{}", "x"]):
         scene.ends(scene.start(command=command), WORDS)
@@ -102,7 +104,8 @@ def try_lists(bench):
 
 
 def try_answers(bench):
-    """the doubts that are printed with tabs are answered by a file, all or none; a wrong text and a second answer are refused"""
+    """the doubts that are printed with tabs are answered by a file, all or none; a wrong text and a
+    second answer are refused"""
     scene = bench.scene(["dies", "dies", "quick", "dies"])
     scene.is_judged = False  # the person lies
     scene.ends(scene.start(), DOUBTFUL)
@@ -124,8 +127,8 @@ SENDS = 'echo "$1" >> "$0/queue"; while [ -d "$0" ] && ! [ -e "$0/serves" ]; do 
 
 
 def sent(bench):
-    """A run whose command has sent a request and was then killed, with its crew, before the bank has
-    taken the request from its queue; the attempt is listed as in doubt."""
+    """Returns a run whose command has sent a request and was then killed, with its crew, before the
+    bank has taken the request from its queue. The attempt is listed as in doubt."""
     scene = bench.scene([], 1, [])
     with open(scene.jobs, "w") as file:
         file.write("pay alice 100\n")
@@ -139,19 +142,19 @@ def sent(bench):
 
 
 def requests(scene):
-    """What the bank has in its queue, and pays once it serves."""
+    """Returns the requests in the bank's queue, which it pays once it serves."""
     return folder.read(f"{scene.room}/queue").decode().splitlines()
 
 
 def end_of(scene):
-    """The status of a crew that begins while the bank serves."""
+    """Returns the status of a crew that begins while the bank serves."""
     scene.let("serves")
     return scene.start(command=["sh", "-c", SENDS, scene.room]).wait(240)
 
 
 def try_late_request(bench):
-    """a request arrives after its command was killed, listed and truly answered `not-done`: the answer is refused until the attempt is
-    quiet, and the line isn't performed again"""
+    """a request arrives after its command was killed, listed and truly answered `not-done`: the
+    answer is refused until the attempt is quiet, and the line isn't performed again"""
     scene = sent(bench)
     words = ["answer", "--quiet", "1000000", "1.1", "1", "pay alice 100"]
     ran = subprocess.run(scene.words(*words, "not-done"), stdin=subprocess.DEVNULL,
@@ -169,7 +172,8 @@ def try_late_request(bench):
 
 
 def try_late_request_now(bench):
-    """the same with `--now`, which takes the answer at once: the bank gets a second request, as the page says"""
+    """the same with `--now`, which takes the answer at once: the bank gets a second request, as the
+    page says"""
     scene = sent(bench)
     scene.call("answer", "--now", "1.1", "1", "pay alice 100", "not-done")
     want(end_of(scene) == DONE, "the line isn't done")
@@ -195,7 +199,8 @@ def try_ages(bench):
 
 
 def try_status(bench):
-    """the status tells who is alive, how all lines stand, how fast it goes, and which process holds what runs"""
+    """the status shows who is alive, the status of each line, the pace, and which process holds the
+    running ones"""
     scene = bench.scene(["quick", "waits", "quick", "quick", "quick"])
     deep = scene.room + "/a folder with a long name" * 8
     os.makedirs(deep)
@@ -281,8 +286,8 @@ OPTIONS = [
 
 
 def try_messages(bench):
-    """what a person is told of a fault is an object, a problem and a remedy,
-    and no trace of Python"""
+    """a fault's message for a person is an object, a problem and a remedy, and no trace of
+    Python"""
     scene = bench.scene(["quick"])
     with open(f"{scene.room}/text", "w") as file:
         file.write("no program\n")
@@ -344,7 +349,8 @@ def try_boot_id(bench):
 
 
 def try_timeout(bench):
-    """a timeout sends TERM and then KILL to the whole group, and the job is in doubt; one that ends in time isn't"""
+    """a timeout sends TERM and then KILL to the whole group, and the job is in doubt; one that ends
+    in time isn't"""
     script = ("""cd "$1"; case $2 in """
               """polite) trap 'echo TERM > polite; exit 0' TERM; sleep 300 & wait;;
         deaf) trap '' TERM; sleep 300; sleep 300;; esac""")
@@ -363,7 +369,7 @@ def try_timeout(bench):
 
 
 def try_last_net(bench):
-    """where the runner is gone the kernel's timer ends the command"""
+    """if the runner is gone the kernel's timer ends the command"""
     scene = bench.scene(["never"], 1, ["--timeout", "3", "--grace", "0.1"])
     script = "import sys, time; open(sys.argv[1] + '/begun', 'w').close(); time.sleep(1000)"
     crew = scene.start(command=[sys.executable, "-c", script, scene.room])
@@ -376,7 +382,8 @@ def try_last_net(bench):
 
 
 def try_leftovers(bench):
-    """what a command leaves behind by &, nohup or setsid is running until it ends; the worker goes on meanwhile"""
+    """a process that a command leaves running by &, nohup or setsid counts as running until it
+    ends; the worker goes on meanwhile"""
     scene = bench.scene(["waits_amp", "waits_nohup", "waits_setsid", "quick", "stays"], 1,
                         ["--linger", "0.05"])
     crew = scene.start()
@@ -419,7 +426,8 @@ def try_first_signal(bench):
 
 
 def try_second_signal(bench):
-    """a further signal is handed on to the commands; a hangup that is ignored, as under nohup, stops nothing"""
+    """a further signal is handed on to the commands; a hangup that is ignored, as under nohup,
+    stops nothing"""
     scene = bench.scene([], 1, [])
     with open(scene.jobs, "w") as file:
         file.write("one\ntwo\n")
@@ -439,7 +447,7 @@ def try_second_signal(bench):
 
 
 def try_halt(bench):
-    """failures in a row stop the crew: ten where none was good before, else as many as --halt says"""
+    """failures in a row stop the crew: ten if none was good before, else as many as --halt says"""
     for options, count, good in (([], 10, 0), (["--halt", "3"], 3, 0), (["--halt", "0"], 30, 0), (["--halt", "4"], 5, 1)):
         scene = bench.scene([], 1, options)
         with open(scene.jobs, "w") as file:
@@ -477,7 +485,7 @@ def try_work(bench):
 
 
 def try_outputs(bench):
-    """what a command prints is kept, elsewhere where that is asked for, and shown with its doubt"""
+    """the output of a command is kept, elsewhere if that is asked for, and shown with its doubt"""
     for options in ([], ["--results", "results"]):
         scene = bench.scene([], 1, [])
         with open(scene.jobs, "w") as file:
@@ -560,7 +568,8 @@ def try_killed_in_turn(bench):
 
 
 def try_disk_full(bench):
-    """a full disk: nothing is performed without an intent, an end that was seen waits for room, and then all goes on"""
+    """a full disk: nothing is performed without an intent, an end that was seen waits for room, and
+    then all goes on"""
     told = []
     for long_codes in (0, 17):
         scene = bench.scene(["hundred"] * long_codes + ["other"] * (120 - long_codes), 1, ["--halt", "0"])
@@ -579,7 +588,7 @@ def try_disk_full(bench):
 
 
 def fill(scene, disk):
-    """A run on this small disk, which is full until it has stopped or waits."""
+    """Returns a run on this small disk, which is full until it has stopped or waits."""
     scene.run, scene.file_system = f"{disk}/run", "tmpfs"
     scene.options += ["--results", f"{scene.room}/results"]
     with open(f"{disk}/ballast", "wb") as file:

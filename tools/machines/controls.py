@@ -1,8 +1,8 @@
 """Controls: amo_share makes a mistake, and a test has to show a line performed twice or lost."""
 
 import os
-import re
 
+from harness import bench as harness
 from jobs.scene import changed
 from machines import directed, scene
 
@@ -57,19 +57,9 @@ def control_of(name, pairs, test, wanted):
 
 
 def shown(above, bench, name, test, wanted):
-    """What the test says of the mistake. Where a race decides, it may take some tries."""
+    """Returns what the test says of the mistake."""
     above.keep(bench)
-    wrong = None
-    for _ in range(3):
-        try:
-            test(bench)
-        except scene.Wrong as found:
-            wrong = str(found)
-            break
-        finally:
-            bench.close()
-    scene.want(wrong, f"{name} shows nothing in: {test.__doc__}")
-    scene.want(re.search(wanted, wrong), f"{name} shows something else: {wrong}")
+    wrong = harness.shown(name, test, lambda: bench, wanted, 3)
     return "shown: " + wrong.replace("\n", " ")[:110]
 
 

@@ -1,4 +1,4 @@
-"""What amo_share has to do, each in a run that is made for it, over stores/folder."""
+"""The duties of amo_share, each in a run that is made for it, over stores/folder."""
 
 import os
 import re
@@ -6,7 +6,10 @@ import shutil
 import signal
 import subprocess
 
-from machines.scene import DONE, DOUBTFUL, FAILED, HERE, KILLED, LATER, LEFT, OVER, REFUSED, Scene, until, want
+from harness.bench import until, want
+from machines.scene import (
+    DONE, DOUBTFUL, FAILED, HERE, KILLED, LATER, LEFT, OVER, REFUSED, Scene
+)
 from machines.stores import store_of
 from worker import folder
 from worker.folder import read
@@ -17,8 +20,8 @@ def scene_of(bench, lines, size, machines, percent=0):
 
 
 def try_shares(bench):
-    """each chunk is asked for once by each machine and worked by one of them, a crew that is begun by hand where it is another's
-    is refused, and a machine that comes again has nothing to do"""
+    """each machine asks for each chunk once, and one of them works it; a crew that is begun by hand
+    in a chunk of another machine is refused, and a machine that comes again has nothing to do"""
     scene = scene_of(bench, 7, 3, 3)
     scene.see_out()
     scene.audit()
@@ -37,7 +40,8 @@ def try_shares(bench):
 
 
 def killed_at(bench, point):
-    """A machine that is killed before one of its calls, another that takes what is free, and the first again; and the calls."""
+    """Returns a machine that is killed before one of its calls, another that takes what is free,
+    and the first again; and the calls."""
     scene = scene_of(bench, 2, 1, 2)
     first, second = scene.machines
     report = f"{scene.room}/report"
@@ -56,8 +60,8 @@ def killed_at(bench, point):
 
 
 def try_killed_everywhere(bench):
-    """killed before each call that changes its folder or starts a program, it does nothing twice, loses nothing, and all that a
-    claim rests on is on the disk"""
+    """killed before each call that changes its folder or starts a program, it does nothing twice,
+    loses nothing, and all that a claim rests on is on the disk"""
     count = len(killed_at(bench, 0))
     points = range(1, count + 1)
     for point in points if bench.is_long else [k * count // 3 + bench.draws.randrange(count // 3) + 1 for k in range(3)]:
@@ -68,7 +72,7 @@ def try_killed_everywhere(bench):
 
 
 def waiting(bench, lines, size, machines, percent=0):
-    """A scene whose first machine's commands wait, and has begun one."""
+    """Returns a scene whose first machine's commands wait, and has begun one."""
     scene = scene_of(bench, lines, size, machines, percent)
     scene.say("waits")
     scene.machines[0].start()
@@ -132,7 +136,7 @@ def try_other_list(bench):
 
 
 def try_same_line_twice(bench):
-    """no two chunks have one line, and where they would nothing is asked for"""
+    """no two chunks have one line; with equal lines no chunk is asked for"""
     scene = scene_of(bench, 4, 2, 1)
     with open(scene.jobs, "a") as file:
         file.write("pay 1\n")
@@ -197,8 +201,8 @@ def try_old_folders(bench):
 
 
 def try_run_of_a_chunk(bench):
-    """each chunk is a run of its own, which its crews are told by its id;
-    a journal that is missing is refused by name"""
+    """each chunk is a run of its own, whose id its crews get; a journal that is missing is refused
+    by name"""
     scene, first = waiting(bench, 4, 2, 1)
     want(len({read(f"{it}/id") for it in (first.run, first.chunk(1))}) == 2, "two runs have one id")
     first.kill_all()
@@ -213,7 +217,8 @@ def try_run_of_a_chunk(bench):
 
 
 def try_copy(bench):
-    """a folder that is a copy, or that wakes up on another machine, is refused without a person's word"""
+    """a folder that is a copy, or that wakes up on another machine, is refused without a person's
+    word"""
     scene, first = waiting(bench, 3, 3, 2)
     first.kill_all()
     scene.take_back("waits")
@@ -237,7 +242,8 @@ def try_copy(bench):
 
 
 def try_lost_folder(bench):
-    """the chunk of a folder that was lost in the middle is worked by nobody, and that is told"""
+    """the chunk of a folder that was lost in the middle is worked by nobody, and that is
+    reported"""
     scene = scene_of(bench, 6, 3, 2)
     first, second = scene.machines
     first.start()
@@ -274,7 +280,7 @@ def try_stopped_in_order(bench):
 
 
 def try_failures(bench):
-    """where commands fail in a row no further chunk is taken, and failed lines are told"""
+    """if commands fail in a row no further chunk is taken, and failed lines are reported"""
     scene = scene_of(bench, 6, 3, 1)
     scene.say("fails")
     first = scene.machines[0]
@@ -287,7 +293,8 @@ def try_failures(bench):
 
 
 def try_doubt(bench):
-    """a doubt is told, and where to look, and a line that a person opens again the next amo_share works"""
+    """a doubt is reported, with its place, and the next amo_share works a line that a person opens
+    again"""
     scene, first = waiting(bench, 2, 2, 1)
     first.kill_all()
     scene.take_back("waits")
@@ -305,7 +312,8 @@ def try_doubt(bench):
 
 
 def try_no_store(bench):
-    """a store that doesn't answer is waited for, also while a stop is asked for, and nothing is performed meanwhile"""
+    """a store that doesn't answer is waited for, also while a stop is asked for, and nothing is
+    performed meanwhile"""
     scene = scene_of(bench, 2, 2, 1)
     first, claims = scene.machines[0], scene.store.environment["AMO_CLAIMS"]
     os.rename(claims, f"{claims}.away")
@@ -322,7 +330,8 @@ def try_no_store(bench):
 
 
 def try_claim_programs(bench, kind="folder"):
-    """of many that claim at once one has it, which all are told, and again later; a free chunk has no owner"""
+    """of many that claim at once one has it, all learn which, and again later; a free chunk has no
+    owner"""
     store = store_of(bench, kind)
     environment = {"PATH": os.environ["PATH"], **store.straight()}
     for chunk in range(1, 4):

@@ -1,5 +1,5 @@
-"""Before a server of loopback: what writes may be dropped, carried out with its answer lost or late, carried out late, or carried
-out again later."""
+"""A proxy in front of a server of loopback. A request that writes may be dropped, carried out with
+its answer lost or late, carried out late, or carried out again later."""
 
 import socket
 import threading
@@ -19,8 +19,8 @@ def shut(*sockets):
 
 
 class Proxy:
-    """Listens at a port of its own. `mark` are the bytes by which a request that writes is known; so many of those in a hundred
-    come to a bad end."""
+    """Listens at a port of its own. `mark` are the bytes by which a request that writes is known;
+    so many of those in a hundred come to a bad end."""
 
     def __init__(self, server, mark, draws, percent):
         self.server, self.mark, self.draws, self.percent, self.asked, self.bad = server, mark, draws, percent, 0, 0
@@ -37,7 +37,7 @@ class Proxy:
             threading.Thread(target=self.carry, args=(client,), daemon=True).start()
 
     def kind(self):
-        """What becomes of a request that writes."""
+        """Returns the fate of a request that writes."""
         self.asked += 1
         if self.draws.randrange(100) >= self.percent:
             return None
@@ -45,7 +45,8 @@ class Proxy:
         return self.draws.choice(KINDS)
 
     def carry(self, client):
-        """One connection, until either side closes it, or what is chosen for its request that writes."""
+        """One connection, until either side closes it, or what is chosen for its request that
+        writes."""
         said, server, answers = b"", None, threading.Event()
         answers.set()
         try:
@@ -76,7 +77,7 @@ class Proxy:
 
     @staticmethod
     def give_back(server, client, answers):
-        """What the server says, while answers are given."""
+        """Returns the server's bytes to the client, as long as answers are given."""
         try:
             while part := server.recv(1 << 16):
                 answers.wait()
@@ -87,7 +88,8 @@ class Proxy:
             shut(client)
 
     def repeat(self, said):
-        """Says all that was said up to here to the server in a while, on a connection of its own."""
+        """Sends all bytes up to here to the server once more, after a while, on a connection of its
+        own."""
         def go():
             time.sleep(self.draws.random())
             try:

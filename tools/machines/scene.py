@@ -1,8 +1,8 @@
-"""What the parts of tools/try_machines share: a list that some machines share, each a folder with an id of its own, whose
-commands write down what they do, and the audit of it all."""
+"""The common parts of the tests of tools/try_machines: a list that some machines share, and its
+audit. Each machine is a folder with an id of its own, whose commands write down what they do.
+qa/harness has the parts that other tools need too."""
 
 import os
-import random
 import shutil
 import signal
 import subprocess
@@ -10,6 +10,8 @@ import sys
 import tempfile
 import time
 
+from harness import bench as harness
+from harness.bench import until, want
 from worker import folder
 
 HERE = os.path.dirname(os.path.realpath(__file__))
@@ -17,39 +19,13 @@ DONE, FAILED, DOUBTFUL, REFUSED, LEFT, LATER = 0, 1, 2, 65, 69, 75
 OVER, KILLED = (DONE, FAILED, DOUBTFUL), -signal.SIGKILL
 
 
-class Wrong(Exception):
-    """What is wrong with the program."""
-
-
-class Skipped(Exception):
-    """What isn't there to try it with."""
-
-
-def want(so, what):
-    if not so:
-        raise Wrong(what)
-
-
-def until(is_so, what, seconds=300, pause=0.02):
-    """Waits for something."""
-    end = time.monotonic() + seconds
-    while not is_so():
-        want(time.monotonic() < end, f"it never is so: {what}")
-        time.sleep(pause)
-
-
-class Bench:
-    """What is tried: amo_share and a worker, in a folder."""
+class Bench(harness.Bench):
+    """A bench with amo_share and a worker."""
 
     def __init__(self, program, worker, room, is_long, seed):
-        self.program, self.worker, self.room = os.path.abspath(program), os.path.abspath(worker), os.path.realpath(room)
-        self.is_long, self.draws, self.end, self.closing, self.counts = is_long, random.Random(seed), None, [], {}
-
-    def has_time(self):
-        return self.end is None or time.monotonic() < self.end
-
-    def add(self, name, more=1):
-        self.counts[name] = self.counts.get(name, 0) + more
+        super().__init__(room, is_long, seed)
+        self.program, self.worker = os.path.abspath(program), os.path.abspath(worker)
+        self.closing = []
 
     def told(self):
         return ", ".join(f"{count} {name}" for name, count in self.counts.items())
@@ -86,7 +62,7 @@ class Scene:
         os.unlink(f"{self.room}/{name}")
 
     def tales(self, word="did"):
-        """The texts of which commands have written this word, each with the machine."""
+        """Returns the texts of which commands have written this word, each with the machine."""
         rows = [it.split(" ", 2) for it in folder.read(self.effects).decode().splitlines()]
         return [(text, machine) for said, machine, text in rows if said == word]
 
@@ -94,7 +70,7 @@ class Scene:
         return range(1, -(-len(self.texts) // self.size) + 1)
 
     def see_out(self, machines=None, seconds=600, during=lambda: None):
-        """Starts these machines again and again, until each ends by itself with nothing open."""
+        """Starts these machines again and again, until each ends on its own with nothing open."""
         end, left = time.monotonic() + seconds, set(machines or self.machines)
         for it in left:
             it.process or it.start()
@@ -121,11 +97,12 @@ class Scene:
         self.bench.add("folders lost")
 
     def lines(self, number):
-        """The texts of a chunk."""
+        """Returns the texts of a chunk."""
         return self.texts[(number - 1) * self.size:number * self.size]
 
     def audit(self):
-        """No line is performed twice, and of each it is told where it stands. What was lost is worked by nobody."""
+        """Wants no line to be performed twice, and the place of each to be reported. Lost lines are
+        worked by nobody."""
         did = [it[0] for it in self.tales()]
         twice = sorted({it for it in did if did.count(it) > 1})
         want(not twice, f"performed twice: {[it for it in self.tales() if it[0] in twice]}")
@@ -190,7 +167,8 @@ class Machine:
         return f"{self.run}/chunk.{number}"
 
     def marks(self, number):
-        """The mark of this machine's folder of a chunk, and that which it has noted as the owner's."""
+        """Returns the mark of this machine's folder of a chunk, and that which it has noted as the
+        owner's."""
         notes = [str(folder.read(f"{self.chunk(number)}/{it}")) for it in ("mark", "owner")]
         return [it.partition('"mark": "')[2].partition('"')[0] for it in notes]
 
@@ -214,7 +192,7 @@ class Machine:
         return self
 
     def tale(self):
-        """What its programs have said."""
+        """Returns the output of its programs."""
         return folder.read(f"{self.folder}/said").decode("utf-8", "replace")
 
     def ends(self, *statuses):
@@ -226,7 +204,7 @@ class Machine:
         return status
 
     def status(self):
-        """What amo_share status says, and how it ends."""
+        """Returns the output of amo_share status, and its status."""
         bench = self.scene.bench
         words = [sys.executable, bench.program, "status", "--run", self.run,
                  "--worker-program", bench.worker]
@@ -239,7 +217,7 @@ class Machine:
         return ran.stdout.decode().splitlines(), ran.returncode
 
     def person(self, command, *words, number=1, status=DONE):
-        """What amo_jobs says to a person of a chunk."""
+        """Returns the output of amo_jobs for a person, on a chunk."""
         bench = self.scene.bench
         words = [sys.executable, f"{os.path.dirname(bench.program)}/amo_jobs", command, "--run", self.chunk(number),
                  "--worker-program", bench.worker, *words]
@@ -249,18 +227,12 @@ class Machine:
         return ran.stdout.decode()
 
     def processes(self, *words):
-        """The processes of this machine that have these words in their command line."""
-        for process in filter(str.isdecimal, os.listdir("/proc")):
-            try:
-                with open(f"/proc/{process}/cmdline", "rb") as file:
-                    said = file.read().decode("utf-8", "replace").split("\0")
-            except OSError:
-                continue
-            if any(it == self.folder or it.startswith(f"{self.folder}/") for it in said) and set(words) <= set(said):
-                yield int(process)
+        """Returns the processes of this machine that have these words in their command line."""
+        return harness.processes_of(self.folder, *words)
 
     def signal(self, number, *words):
-        """To its processes with these words; those that ended meanwhile are none."""
+        """Sends a signal to its processes with these words. A process that ended meanwhile is left
+        out."""
         found = list(self.processes(*words))
         for process in found:
             try:

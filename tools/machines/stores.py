@@ -12,7 +12,7 @@ import time
 import urllib.request
 
 from machines.proxy import Proxy
-from machines.scene import Skipped, until, want
+from harness.bench import Skipped, until, want
 from worker.folder import read
 
 HERE = os.path.dirname(os.path.realpath(__file__))
@@ -31,23 +31,24 @@ def free_ports(count):
 
 
 class Store:
-    """What all have: a claim program and its environment."""
+    """The common part of all stores: a claim program and its environment."""
 
     kind, claim, environment = None, None, {}
 
     def ask(self, *words):
-        """What the claim program answers, straight."""
+        """Returns the answer of the claim program."""
         ran = subprocess.run([f"{CLAIMS}/{self.kind}", *words], stdin=subprocess.DEVNULL,
                              capture_output=True, timeout=300,
                              env={"PATH": os.environ["PATH"], **self.straight()})
         return ran.stdout.decode() if ran.returncode == 0 else None
 
     def straight(self):
-        """The environment by which nothing is in between."""
+        """Returns the environment by which nothing is in between."""
         return self.environment
 
     def owner(self, name, number):
-        """The mark that has this chunk; what can't be had is tried for a while."""
+        """Returns the mark that has this chunk. It tries for a while if the store doesn't
+        answer."""
         end = time.monotonic() + 300
         while (found := self.ask("look", name, str(number))) is None:
             want(time.monotonic() < end, "the store doesn't come back")
@@ -58,13 +59,13 @@ class Store:
         """Starts it."""
 
     def hurt(self, draws):
-        """Does something to it, by chance, and tells what; None where nothing is done."""
+        """Hurts it, by chance, and returns how; None if it does nothing."""
 
     def heal(self):
         """Gives all of it back."""
 
     def answers(self):
-        """How many requests there were, and how many of them came to a bad end."""
+        """Returns the number of requests, and how many of them came to a bad end."""
 
     def close(self):
         pass
@@ -87,7 +88,7 @@ class Folder(Store):
 
 
 class Etcd(Store):
-    """Three nodes, each behind a proxy."""
+    """Three nodes, each with a proxy in front of it."""
 
     kind = "etcd"
 
@@ -163,7 +164,8 @@ class Etcd(Store):
 
 
 class Postgres(Store):
-    """One server behind a proxy. It doesn't run as root, so there it runs as the user postgres."""
+    """One server with a proxy in front of it. PostgreSQL doesn't run as root, so there it runs as
+    the user postgres."""
 
     kind = "postgres"
 
@@ -227,7 +229,7 @@ class Postgres(Store):
 
 
 def store_of(bench, kind="folder", percent=0):
-    """A store of this kind in a folder of its own."""
+    """Returns a store of this kind in a folder of its own."""
     room = tempfile.mkdtemp(prefix="store.", dir=bench.room)
     store = bench.keep(Folder(room, percent) if kind == "folder" else
                        {"etcd": Etcd, "postgres": Postgres}[kind](room, bench.draws, percent))

@@ -1,4 +1,5 @@
-"""Random runs: machines are killed and stopped, in part and as a whole, folders are lost, and the store is hurt."""
+"""Random runs: machines are killed and stopped, in part and as a whole, folders are lost, and the
+store is hurt."""
 
 import signal
 import time
@@ -78,7 +79,7 @@ class Storm:
 
 
 def storms(bench, kind, percent, runs):
-    """So many runs over one store, or in the long form as many as there is time for."""
+    """Makes so many runs over one store, or in the long form as many as there is time for."""
     store, count = store_of(bench, kind, percent), 0
     while count < runs or bench.is_long and bench.end and bench.has_time():
         machines, size = bench.draws.randint(3, 5), bench.draws.randint(2, 4)
@@ -107,7 +108,8 @@ def try_etcd_claims(bench):
 
 
 def try_etcd_storms(bench):
-    """random runs over three nodes of etcd, of which one or two are killed or stopped, with answers lost, late and repeated"""
+    """random runs over three nodes of etcd, of which one or two are killed or stopped, with answers
+    lost, late and repeated"""
     return storms(bench, "etcd", 30, 2)
 
 
@@ -117,7 +119,8 @@ def try_postgres_claims(bench):
 
 
 def try_postgres_storms(bench):
-    """random runs over PostgreSQL, which is stopped and crashes, with answers lost, late and repeated"""
+    """random runs over PostgreSQL, which is stopped and crashes, with answers lost, late and
+    repeated"""
     return storms(bench, "postgres", 30, 2)
 
 

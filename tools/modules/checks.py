@@ -25,7 +25,8 @@ UNREAD = re.compile(r"is not in scope|has no field|is no name|operand is missing
 
 
 class Said:
-    """What a check printed: the reason that it gives for each function, and the lines that name a place."""
+    """The output of a check: the reason that it gives for each function, and the lines that name a
+    place."""
 
     def __init__(self, text, status):
         self.text, self.status = text, status
@@ -38,19 +39,22 @@ class Said:
         self.last = next((it for it in lines if "error" in it), lines[0]) if not self.reached else lines[-1]
 
     def own_reason(self, symbol):
-        """Why this function is not proved, but for the functions that it calls; empty where there is no such reason."""
+        """Returns the reason why this function is not proved, without the functions that it calls.
+        It is empty without such a reason."""
         reason = self.told[symbol]
         if reason == "proved":
             return ""
         return re.sub(r"^(not proved|no proof|could not tell):?\s*", "", OTHERS.sub("", reason)).strip(" ;")
 
     def names(self, crate, body):
-        """Whether a check that didn't reach the prover names a function of this body, by its place or by its name."""
+        """Returns whether a check that didn't reach the prover names a function of this body, by
+        its place or by its name."""
         cited = re.findall(r"`(\w+(?:::[\w+]+)+)`", self.text)
         return any(body.has(path, number) for path, number, _ in self.places) or any(it.symbols(crate.name, cited) for it in body.functions)
 
     def unread(self, body):
-        """The first line that says that a text of the sources that this body changes can't be read."""
+        """Returns the first line that says that a text of the sources that this body changes can't
+        be read."""
         for path, number, line in self.places:
             if "error" in line and (path, number) in body.lines and (UNREAD.search(line) or "error: `" not in line):
                 return line
@@ -58,9 +62,9 @@ class Said:
 
 
 def run(crate, bodies, kept, functions=(), real=()):
-    """One check of a copy of the crate with these bodies in it, over what `kept` holds. Of these functions, those that are not real
-    have stubs there, and the real ones are looked at; where no functions are given, or one of them can't be named, all that
-    is in the copy."""
+    """Checks a copy of the crate with these bodies in it, over the proofs in `kept`. Of these
+    functions, those that are not real have stubs there, and the real ones are checked. If no
+    functions are given, or one of them can't be named, all functions in the copy are checked."""
     paths = sorted({it.path() for it in real})
     only = [word for it in paths for word in ("--only", it)] if paths and "" not in paths else []
     check = [*crate.check(kept), *(["--allow-holes"] if functions else [])]
@@ -83,8 +87,9 @@ def run(crate, bodies, kept, functions=(), real=()):
 
 
 def judge(crate, body, said):
-    """What a check says of a body: 'refused', 'proved', 'names' (refused only by what a proof file names), 'unread', or
-    None where it doesn't tell; and the line that shows it."""
+    """Returns the verdict of a check on a body, and the line that shows it. It is 'refused',
+    'proved', 'names' (refused only by a name in a proof file), 'unread', or None if the check
+    doesn't show it."""
     unread = said.unread(body)
     if unread:
         return "unread", unread
@@ -121,8 +126,8 @@ def judge_symbol(body, function, symbol, said):
 
 
 def strangers(crate, bodies, said):
-    """The functions and types that no body changes, and that are refused for a reason of their own. That may be a contract
-    which a body changes, of a function that they call."""
+    """Returns the functions and types that no body changes, and that are refused for a reason of
+    their own. That may be a contract which a body changes, of a function that they call."""
     symbols_of = lambda body: {it for function in body.functions for it in function.symbols(crate.name, said.told)}
     changed = set().union(*map(symbols_of, bodies))
     contracts = set().union(*(symbols_of(it) for it in bodies if it.changes_head()))

@@ -57,14 +57,15 @@ class Maker:
         self.files, self.ends = {}, {}
 
     def lines(self, file: str) -> list[str]:
-        """The lines of a file, as they are."""
+        """Returns the lines of a file, as they are."""
         if file not in self.files:
             self.files[file] = source.lines_of(f"{self.crate.folder}/{file}")
             self.ends[file] = len(self.files[file])
         return self.files[file]
 
     def can_copy(self, body: edits.Body) -> bool:
-        """Whether this body changes one function and its proof alone, and it can have a copy."""
+        """Returns whether this body changes one function and its proof alone, and it can have a
+        copy."""
         function, proof = body.functions[0], self.proof_of(body.functions[0])
         if len(body.functions) > 1 or not self.can_have_copy(function):
             return False
@@ -73,8 +74,9 @@ class Maker:
         return all(within(*it) for it in body.lines) and bool(named(function).search(head))
 
     def can_have_copy(self, function: source.Function) -> bool:
-        """Whether this function can have a copy: it is a free function or a method of a type's own,
-        doesn't call itself, and no name, proof or other function ties it to its place."""
+        """Returns whether this function can have a copy. It must be a free function or a method
+        of a type's own, and not call itself. No name, proof or other function may tie it to its
+        place."""
         lines, block = self.lines(function.file), function.block
         head = f"{'    ' if block else ''}(pub(\\(\\w+\\))? )?(const )?fn {function.name}\\b"
         is_alone = not any(
@@ -88,7 +90,8 @@ class Maker:
             and not self.is_tied(function))
 
     def has_plain_head(self, function: source.Function) -> bool:
-        """Whether the lines of the `impl` that this method stands in can stand once more."""
+        """Returns whether the lines of the `impl` that this method stands in can stand once
+        more."""
         lines, block = self.lines(function.file), function.block
         begins, opens = lines[block.first - 1], lines[block.opens - 1]
         return not block.trait and begins.startswith("impl") and opens.endswith("{")
@@ -97,13 +100,13 @@ class Maker:
         return "/".join(["proofs", *function.place()])
 
     def is_tied(self, function: source.Function) -> bool:
-        """Whether all of its proof is written by hand, or the function calls itself."""
+        """Returns whether all of its proof is written by hand, or the function calls itself."""
         proof = f"{self.crate.folder}/{self.proof_of(function)}"
         own = os.path.join(os.path.dirname(proof), f"+{function.name}")
         return os.path.isdir(own) or os.path.isfile(f"{proof}/Proof.antt")
 
     def copied(self, function: source.Function, body: edits.Body | None = None) -> Copied:
-        """A copy of this function with this body, or as it is."""
+        """Returns a copy of this function with this body, or as it is."""
         lines, block = self.lines(function.file), function.block
         first, name = first_of(lines, function), self.new_name(function.name)
         above = lines[block.first - 1: block.opens] + imports_of(lines, block) if block else []
@@ -121,8 +124,8 @@ class Maker:
         return made
 
     def line(self, function: source.Function, name: str, number: int, changed: dict) -> str:
-        """The text of a line of a copy. The copy's name is new, and so is that of each function
-        that the body adds."""
+        """Returns the text of a line of a copy. The copy's name is new, and so is that of each
+        function that the body adds."""
         old = self.lines(function.file)[number - 1]
         text = changed.get((function.file, number), old)
         if number == function.first:
@@ -132,7 +135,7 @@ class Maker:
         return ADDED.sub(fresh, text)
 
     def new_name(self, name: str) -> str:
-        """A name for a copy of the function of this name that nothing else has."""
+        """Returns a name for a copy of the function of this name that nothing else has."""
         number = 1
         while f"{name}_body_{number}" in self.names:
             number += 1
@@ -156,7 +159,7 @@ class Maker:
 
 
 def named(function: source.Function) -> re.Pattern:
-    """Where a function's head says its name."""
+    """Returns the pattern of a function's name in its head."""
     return re.compile(rf"\bfn {function.name}\b")
 
 
@@ -170,7 +173,7 @@ def moved(function: source.Function, name: str, by: int) -> source.Function:
 
 
 def first_of(lines: list[str], function: source.Function) -> int:
-    """The line of a function's first attribute, or of its head if it has none."""
+    """Returns the line of a function's first attribute, or of its head if it has none."""
     first = at = function.first
     while at > 1 and lines[at - 2].lstrip().startswith(("#[", "//")):
         at -= 1
@@ -179,17 +182,17 @@ def first_of(lines: list[str], function: source.Function) -> int:
 
 
 def imports_of(lines: list[str], block: source.Block) -> list[str]:
-    """What an `impl` block imports for its contracts."""
+    """Returns the imports of an `impl` block for its contracts."""
     return [it for it in lines[block.opens: block.last] if it.startswith("    ghost use ")]
 
 
 def tries_of(crate, functions: list[source.Function], bodies: list[edits.Body], most: int) -> list:
-    """How these bodies are tried at first: the twins, copies of functions as they are, and the
+    """Returns the first tries of these bodies: the twins, copies of functions as they are, and the
     edits, each in its place or in a copy.
 
     A function with a twin and an edit, or with several edits, has them in copies, with one of it as
-    it is if it has no twin. An edit that its function has alone is in its place, unless it needs
-    one more check there, since it can't stand together with the others.
+    it is if it has no twin. An edit that its function has alone is in its place. If it can't stand
+    together with the others there, and needs one more check, it has a copy.
     """
     maker = Maker(crate, functions)
     able = [it for it in bodies if maker.can_copy(it)]
@@ -205,7 +208,7 @@ def tries_of(crate, functions: list[source.Function], bodies: list[edits.Body], 
 
 
 def tries_with(chosen: list[source.Function], maker: Maker, able: list, bodies: list) -> list:
-    """How these bodies are tried if the able ones of the chosen functions are in copies."""
+    """Returns the tries of these bodies if the able ones of the chosen functions are in copies."""
     twinned = [it.functions[0] for it in able if it.is_twin]
     plain = [maker.copied(it) for it in dict.fromkeys(chosen) if it not in twinned]
     is_copied = lambda it: it in able and it.functions[0] in chosen
@@ -215,6 +218,6 @@ def tries_with(chosen: list[source.Function], maker: Maker, able: list, bodies: 
 
 
 def met_in(tries: list, able: list[edits.Body]) -> list[edits.Body]:
-    """The able bodies in their place that can't stand together with others."""
+    """Returns the able bodies in their place that can't stand together with others."""
     return [it for it in tries
             if it in able and any(it.meets(other) for other in tries if other is not it)]

@@ -12,13 +12,13 @@ NO_KIT = ("`rt`: it is not on the path; install the toolchain, see 'Build and ru
 
 
 def kit():
-    """The toolchain's folder, or None where `rt` is not on the path."""
+    """Returns the toolchain's folder, or None where `rt` is not on the path."""
     found = shutil.which("rt")
     return found and os.path.dirname(os.path.dirname(os.path.realpath(found)))
 
 
 def files_of(folder):
-    """The files of a crate that a check reads."""
+    """Yields the files of a crate that a check reads."""
     for part in PARTS:
         for place, folders, names in os.walk(f"{folder}/{part}"):
             folders.sort()
@@ -27,7 +27,8 @@ def files_of(folder):
 
 @functools.lru_cache(maxsize=None)
 def lines_of(folder, ending):
-    """How many lines the files with this ending have, as they were when this was first asked."""
+    """Returns how many lines the files with this ending have, as they were when this was first
+    asked."""
     total = 0
     for file in files_of(folder):
         if file.endswith(ending):
@@ -37,7 +38,8 @@ def lines_of(folder, ending):
 
 
 class Crate:
-    """A crate with the crates that it stands on: those of the repository, and the names of the toolchain's."""
+    """A crate with the crates that it stands on: those of the repository, and the names of the
+    toolchain's."""
 
     def __init__(self, kit, root, name, is_static, deps, of_kit):
         self.kit, self.name, self.deps, self.of_kit = kit, name, deps, of_kit
@@ -47,14 +49,15 @@ class Crate:
         self.rlib = f"{self.folder}/out/rlib/{name}.rlib"
 
     def below(self):
-        """The repository's crates below this one, each after those that it stands on."""
+        """Returns the repository's crates below this one, each after those that it stands on."""
         found = []
         for dep in self.deps:
             found += [it for it in [*dep.below(), dep] if it not in found]
         return found
 
     def words(self, jobs):
-        """What each call of the prover on this crate says, in a folder that holds its files, with so many processes."""
+        """Returns the words of each call of the prover on this crate, in a folder that holds its
+        files, with so many processes."""
         words = ["--crate-name", self.name, "src/main.rt" if self.is_program else "src/lib.rt"]
         for name in ["std", *self.of_kit]:
             words += ["--extern", f"{name}={self.kit}/rlibs/{name}.rlib"]
@@ -67,17 +70,18 @@ class Crate:
         return [*words, "--logic-built", f"{self.kit}/logic_built", "--jobs", str(jobs), "--links", f"{self.name}="]
 
     def check(self, kept):
-        """The command of a check of this crate over what earlier checks kept."""
+        """Returns the command of a check of this crate over what earlier checks kept."""
         return [f"{self.kit}/bin/rattle", "check", *self.words(1), "--incremental", kept]
 
     def make(self, jobs):
-        """The command that proves this library from nothing, and writes it with all that is stated and no proof of it: so whoever
-        stands on it reads less."""
+        """Returns the command that proves this library from nothing, and writes it with all that is
+        stated and no proof of it: so whoever stands on it reads less."""
         return [f"{self.kit}/bin/rattle", "build", *self.words(jobs), "--statements", "-o", self.rlib]
 
     def build(self, made, kept):
-        """Proves the crate over the libraries that are made, and compiles it: a program, which is linked, or a static library. It is
-        made beside its place, so that one that is half written is never there. Answers the status."""
+        """Proves the crate over the libraries that are made, and compiles it: a program, which is
+        linked, or a static library. It makes it next to its place, so that a half-written one is
+        never there. Returns the status."""
         compiled = f"{made}.new.o" if self.is_program else f"{made}.new"
         words = [f"{self.kit}/bin/rattle", "build", *self.words(1), "--incremental", kept]
         words += ["--crate-type", "staticlib"] * self.is_static
@@ -96,25 +100,28 @@ class Crate:
         return sum(lines_of(self.folder, it) for it in (".rt", ".antt"))
 
     def work(self):
-        """What a check takes beside those of other crates, in lines of code, as measured: those of proof count for little beside
-        them, and the first use of a large library of the toolchain's as much as hundreds."""
+        """Returns the work of a check next to those of other crates, in lines of code, as measured.
+        Lines of proof count for little. The first use of a large library of the toolchain's counts
+        as much as hundreds of lines."""
         return lines_of(self.folder, ".rt") + self.loaded(self.of_kit) // 200_000
 
     def loaded(self, names):
-        """The bytes of these libraries of the toolchain's."""
+        """Returns the bytes of these libraries of the toolchain's."""
         archives = [f"{self.kit}/rlibs/{it}.rlib/toolchain/checked.a" for it in names]
         return sum(os.path.getsize(it) for it in archives if os.path.isfile(it))
 
     def need(self):
-        """The most memory that a check is likely to take, in bytes, by lines of code and of proof, as measured."""
+        """Returns the most memory that a check is likely to take, in bytes, by lines of code and of
+        proof, as measured."""
         own = 1_000_000 * lines_of(self.folder, ".rt") + 200_000 * lines_of(self.folder, ".antt")
         below = 80_000 * sum(lines_of(it.folder, ".rt") for it in self.below())
         loaded = self.loaded({name for it in [self, *self.below()] for name in it.of_kit})
         return 1_000_000_000 + own + below + min(5 * loaded, 2_500_000_000)
 
     def is_current(self):
-        """Whether the library that stands in out/ was written after each file that it was made of had come there, and
-        after the libraries below it. The folder's time is that of its making; a file's that at which the system saw it."""
+        """Returns whether the library that stands in out/ was written after each file that it was
+        made of had come there, and after the libraries below it. The folder's time is that of its
+        making; a file's that at which the system saw it."""
         try:
             made = time_of(self.rlib)
             return os.path.isfile(f"{self.rlib}/format") and all(os.stat(it).st_ctime_ns < made for it in files_of(self.folder))
@@ -122,29 +129,30 @@ class Crate:
             return False
 
     def is_made(self):
-        """Whether the library is current, and so are those below it, and none is older than one that it stands on."""
+        """Returns whether the library is current, and so are those below it, and none is older than
+        one that it stands on."""
         return self.is_current() and all(it.is_made() and time_of(it.rlib) <= time_of(self.rlib) for it in self.deps)
 
     def is_over(self):
-        """Whether each library below is made."""
+        """Returns whether each library below is made."""
         return all(it.is_made() for it in self.deps)
 
     def is_stale(self):
-        """Whether there is a library, and a source has changed since."""
+        """Returns whether there is a library, and a source has changed since."""
         return os.path.isdir(self.rlib) and not self.is_current()
 
     def is_kept(self):
-        """Whether `rt lib` made the library, so that `rt` takes it as made."""
+        """Returns whether `rt lib` made the library, so that `rt` takes it as made."""
         return os.path.isfile(f"{self.folder}/out/rlib/stamp")
 
     def has_kept(self):
-        """Whether proofs of the crate were kept, from which the next ones go on."""
+        """Returns whether proofs of the crate were kept, from which the next ones go on."""
         return os.path.isdir(f"{self.folder}/out/incremental")
 
 
 def copy_of(kept, to):
-    """A copy of what a check kept. A check replaces a file there, and writes into none, so a link does for a proof, where the
-    copy is on the same file system."""
+    """Returns a copy of the files that a check kept. A check replaces a file there, and writes into
+    none. So a link does for a proof, if the copy is on the same file system."""
 
     def copy(one, other):
         try:
@@ -165,7 +173,7 @@ def free_memory():
 
 
 def crates_of(kit, root):
-    """All crates of crates.txt, lowest first."""
+    """Returns all crates of crates.txt, lowest first."""
     with open(f"{root}/crates.txt", encoding="utf-8") as held:
         rows = [it.partition("#")[0].strip() for it in held]
     listed, static = {}, set()

@@ -55,7 +55,7 @@ class Definition:
 
     @functools.cached_property
     def words(self) -> list[str]:
-        """The tokens that may name other definitions."""
+        """Returns the tokens that may name other definitions."""
         is_rust, lines = self.source.is_rust, self.lines
         if is_rust:
             lines = [it for it in lines if not it.lstrip().startswith("#[")]

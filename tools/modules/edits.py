@@ -10,8 +10,8 @@ HOLE = re.compile(r"(?<!\w)\?")
 
 
 class Change:
-    """What is changed in a copy of a crate: the new texts of `lines`, by file and number from 1, the
-    `functions` that they change, and which `calls` they add."""
+    """The changes in a copy of a crate: the new texts of `lines`, by file and number from 1, the
+    `functions` that they change, and the `calls` that they add."""
 
     def __init__(self):
         self.lines, self.functions, self.calls = {}, [], set()
@@ -20,16 +20,16 @@ class Change:
         self.begun = set()
 
     def changes_head(self):
-        """Whether it changes a function's head, so that callers see another contract."""
+        """Returns whether it changes a function's head, so that callers see another contract."""
         is_head = lambda it, at: it.first <= at < it.opens or at == it.opens and (it.file, at) not in self.begun
         return any(it.file == path and is_head(it, number) for it in self.functions for path, number in self.lines)
 
     def may_call(self, other):
-        """Whether a function that this body changes may call one that the other changes."""
+        """Returns whether a function that this body changes may call one that the other changes."""
         return any(it.name in self.calls.union(*(held.called for held in self.functions)) for it in other.functions)
 
     def meets(self, other):
-        """Whether the two can't stand in one copy."""
+        """Returns whether the two can't stand in one copy."""
         # (a constant that is changed is so in copies of the functions that read it, too)
         is_wide = self.reaches_out() or other.reaches_out()
         held = lambda it: {id(function.origin if is_wide else function) for function in it.functions}
@@ -46,11 +46,11 @@ class Change:
         return any(it.file == path and it.has(number) for it in self.functions)
 
     def in_place(self, line: str) -> str:
-        """What this line of a check is if all stands in its place."""
+        """Returns this line of a check, with all names as they are in their places."""
         return line
 
     def reaches_out(self) -> bool:
-        """Whether it changes a constant, which stands in no function."""
+        """Returns whether it changes a constant, which stands in no function."""
         is_constant = lambda path, text: path.startswith("src/") and not text.lstrip().startswith("ghost use ")
         return any(is_constant(path, text) and not self.has(path, it) for (path, it), text in self.lines.items())
 
@@ -67,7 +67,8 @@ class Body(Change):
         self.verdict, self.why, self.tries = None, "", []
 
     def read(self, folder, functions):
-        """Reads the file, and finds the functions that it changes. `trouble` says why it can't be applied."""
+        """Reads the file, and finds the functions that it changes. `trouble` says why it can't be
+        applied."""
         try:
             with open(self.file, encoding="utf-8") as held:
                 was, now = applied(held.read(), folder)
@@ -106,8 +107,9 @@ def calls_of(line):
 
 
 def applied(text, folder):
-    """The texts of the files that an edit names, before and after it. It may carry a proof over to the names that its own lines
-    give to the goals, as `-2` for what a second return leaves."""
+    """Returns the texts of the files that an edit names, before and after it. It may carry a
+    proof over to the names that its own lines give to the goals, as `-2` for what a second
+    return leaves."""
     path, old, was, now, pairs = None, None, {}, {}, 0
     for line in text.split("\n"):
         if line.startswith("file: "):
@@ -136,7 +138,8 @@ def applied(text, folder):
 
 
 def bodies_of(crate, functions):
-    """The crate's edits and twins, by name, and the files of the folder that are neither."""
+    """Returns the crate's edits and twins, by name, and the files of the folder that are
+    neither."""
     place, found, strange = f"{crate.folder}/{FOLDER}", [], []
     for name in sorted(os.listdir(place)) if os.path.isdir(place) else []:
         if name.endswith((".edit", ".twin")):
@@ -149,8 +152,8 @@ def bodies_of(crate, functions):
 
 
 def rounds_of(bodies, most, apart=False):
-    """Parts bodies into as few groups as they fall into in turn, no two of a group meeting; with `apart` no two of which one
-    may call the other."""
+    """Parts bodies into as few groups as they fall into in turn, no two of a group meeting; with
+    `apart` no two of which one may call the other."""
     rounds = []
     for it in bodies:
         fits = (held for held in rounds if len(held) < most and not any(

@@ -67,7 +67,7 @@ def end_of(words: list[str], at: int) -> int:
 
 
 def body_at(words: list[str]) -> int | None:
-    """Returns the place of the brace that opens the body; braces of clauses are none."""
+    """Returns the place of the brace that opens the body. Braces of clauses don't count."""
     at, is_clause = 0, False
     while at < len(words):
         if words[at] == "{" and not is_clause:
@@ -78,7 +78,7 @@ def body_at(words: list[str]) -> int | None:
 
 
 def marks_of(words: list[str]) -> tuple[list[str], list[str]]:
-    """Returns the attributes that are kept, and the words behind all attributes."""
+    """Returns the attributes that are kept, and the words after all attributes."""
     kept: list[str] = []
     while True:
         while words[:1] == [" "]:

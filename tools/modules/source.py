@@ -10,7 +10,8 @@ OPENS, CLOSES = "([{", ")]}"
 
 
 class Function:
-    """A function: its name, the type and the trait of its impl, its module, and where it stands, in lines from 1."""
+    """A function: its name, the type and the trait of its impl, its module, and its place, in lines
+    from 1."""
 
     def __init__(self, file, name, block, cycle, lines, words):
         self.file, self.name, self.block, self.cycle = file, name, block, cycle
@@ -25,8 +26,8 @@ class Function:
         return module_of(self.file)
 
     def place(self):
-        """Where a check looks for its proof, below proofs/: in the module of its type, and of a trait's method in its own, below both
-        names in one word."""
+        """Returns the place below proofs/ of its proof: the module of its type. A trait's method
+        has a module of its own, below both names in one word."""
         owner = [self.block.type + "".join(it[0].upper() + it[1:] for it in self.block.of_trait)] if self.block else []
         return [*self.home, *owner, self.name]
 
@@ -34,15 +35,16 @@ class Function:
         return self.first <= line <= self.last
 
     def path(self):
-        """By which name a check can be asked for this function: its own, or, of a trait's method, which has both names in one
-        word, that of its module; empty in the crate's root."""
+        """Returns the name by which a check can be asked for this function. It is its own, or, for
+        a trait's method, which has both names in one word, that of its module. It is empty in the
+        crate's root."""
         if not self.block:
             return "::".join([*self.module(), self.name])
         return "::".join(self.module()) if self.block.trait else f"{self.block.type}::{self.name}"
 
     def symbols(self, crate, told):
-        """Which of these names of a check are this function's: `crate::module::Type::name`, of a trait's method with both
-        names in one word, below the type's own module."""
+        """Returns which of these names of a check are this function's: `crate::module::Type::name`,
+        of a trait's method with both names in one word, below the type's own module."""
         ending = [it for it in told if it.startswith(f"{crate}::") and it.split("::")[-1] == self.name]
         if not self.block:
             whole = "::".join([crate, *self.module(), self.name])
@@ -57,7 +59,7 @@ class Function:
         return near or found
 
     def is_by_hand(self, folder, crate, told):
-        """Whether a part of its proof is written by hand."""
+        """Returns whether a part of its proof is written by hand."""
         places = ["/".join(it.split("::")[1:]) for it in self.symbols(crate, told)] + ["/".join(self.place())]
         places += ["/".join([*self.module(), f"+{self.cycle}"])] * bool(self.cycle)
         names = ("Answers", "Invariants", "Proof")
@@ -65,8 +67,8 @@ class Function:
 
 
 class Block:
-    """The head of an impl or a trait: the type that it is of, the words of both names, and of an impl those of its trait; and the
-    lines at which it begins, at which it opens and at which it ends."""
+    """The head of an impl or a trait: the type that it is of, the words of both names, and of an
+    impl those of its trait. It has the lines at which it begins, opens and ends."""
 
     def __init__(self, keyword, head, lines):
         self.first, self.opens, self.last = lines
@@ -87,8 +89,8 @@ def module_of(file):
 
 
 def called_in(words):
-    """The names that may be called where these words stand: those before a bracket, and the last of a path. A field's, a
-    local's and a type's are none. A `?` calls a `from`."""
+    """Returns the names that may be called in these words: those before a bracket, and the last of
+    a path. The name of a field, a local or a type doesn't count. A `?` calls a `from`."""
     after = [*words[1:], ""]
     before = ["", *words[:-1]]
     called = {it for it, behind, ahead in zip(words, after, before) if behind == "(" or ahead == "::" or behind == "::"}
@@ -105,7 +107,7 @@ def past_angles(words):
 
 
 def last_name(words):
-    """The last name of a path, before its arguments."""
+    """Returns the last name of a path, before its arguments."""
     plain = words[: words.index("<")] if "<" in words else words
     names = [it for it in plain if WORD.match(it) and it not in ("mut", "dyn")]
     return names[-1] if names else ""
@@ -128,14 +130,14 @@ def set_lines(file: str, texts: dict[int, str]) -> None:
 
 
 def tokens(rattle, folder, file):
-    """The line and the text of each token of code, those of contracts left out."""
+    """Returns the line and the text of each token of code, those of contracts left out."""
     ran = subprocess.run([rattle, "fmt", "--tokens", f"{folder}/{file}"], capture_output=True, encoding="utf-8", check=True)
     rows = [it.split(" ", 4) for it in ran.stdout.split("\n")[1:] if it]
     return [(int(row[0]), json.loads(row[4])) for row in rows if row[3] in ("Code", "Literal")]
 
 
 def end_of(rows, at):
-    """The place of the bracket that closes the one here."""
+    """Returns the place of the bracket that closes the one here."""
     depth = 0
     for place in range(at, len(rows)):
         text = rows[place][1]
@@ -147,14 +149,14 @@ def end_of(rows, at):
 
 
 def opening(rows, at):
-    """The place of the `{` of a body, or of the `;` that stands where there is none."""
+    """Returns the place of the `{` of a body, or of the `;` of a function without one."""
     while at < len(rows) and rows[at][1] not in ("{", ";"):
         at = end_of(rows, at) + 1 if rows[at][1] in ("(", "[") else at + 1
     return at
 
 
 def functions_in(file, rows, at=0, end=None, block=None):
-    """The functions of these tokens, an inner one after that which holds it."""
+    """Yields the functions of these tokens, an inner one after that which holds it."""
     end, cycle = len(rows) if end is None else end, None
     while at < end:
         line, text = rows[at]
@@ -179,7 +181,7 @@ def functions_in(file, rows, at=0, end=None, block=None):
 
 
 def functions_of(rattle, folder):
-    """All functions of a crate's src/, its tests left out."""
+    """Returns all functions of a crate's src/, its tests left out."""
     found, homes = [], {}
     for place, folders, files in os.walk(f"{folder}/src"):
         folders[:] = sorted(it for it in folders if it != "tests")

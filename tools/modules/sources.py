@@ -47,7 +47,7 @@ class Item(NamedTuple):
 
 
 class Block(NamedTuple):
-    """A block of code in a comment: the lines of the program, and where it stands."""
+    """A block of code in a comment: the lines of the program, and their place."""
     file: str
     line: int
     item: str

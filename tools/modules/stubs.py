@@ -1,7 +1,8 @@
-"""Stubs for the functions that a check says nothing of, so that it needs no proof of what they do.
+"""Stubs for the functions that a check doesn't judge, so that it needs no proof of them.
 
-A stub has the head of its function, with its contract, a loop without end in place of the body, and a hole in place of the proof,
-which a check that goes past holes takes as proved: `rt ci` says whether it is. So nothing below such a function is checked.
+A stub has the head of its function, with its contract, a loop without end in place of the body, and
+a hole in place of the proof. A check that goes past holes takes it as proved: `rt ci` shows whether
+it is. So nothing below such a function is checked.
 """
 
 import os
@@ -11,15 +12,16 @@ PROOF = "use Rattle.{crate}.proofs.{path}.Statement.{{statement}}\n\npub {name}_
 
 
 def can_be_stub(function, lines, real):
-    """Whether a stub can be put in place of this function: its body is some lines by itself, and none of the functions that are to
-    stay stands within it."""
+    """Returns whether a stub can be put in place of this function. Its body must be some lines of
+    their own, and have none of the functions that are to stay."""
     opens, closes = lines[function.opens - 1], lines[function.last - 1]
     has_lines = function.last - function.opens > 1 and opens.endswith("{") and closes.strip() == "}"
     return has_lines and not any(it.file == function.file and function.has(it.first) for it in real)
 
 
 def put(crate, room, functions, real):
-    """Puts stubs into this copy of the crate for all functions that can have one, but for those that are to stay real."""
+    """Puts stubs into this copy of the crate for all functions that can have one, but for those
+    that are to stay real."""
     texts = {}
     for it in functions:
         if it.file not in texts:

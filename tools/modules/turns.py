@@ -1,9 +1,9 @@
 """Which mutants a run of `./test` tries.
 
 All mutants of a crate were tried when its line was written to tests/mutants_tried.txt. The line has
-a digest of the crate's code, definitions, proofs and mutants, without comments. If the digest still
-fits, a run tries the mutants of a third of the crate's functions; the number of commits decides
-which third. Else it tries all of them.
+a digest of the toolchain's version and of the crate's code, definitions, proofs and mutants, without
+comments. If the digest still fits, a run tries the mutants of a tenth of the crate's functions; the
+number of commits decides which tenth. Else it tries all of them.
 """
 
 from __future__ import annotations
@@ -15,7 +15,7 @@ import subprocess
 
 import edits
 
-PARTS = 3
+PARTS = 10
 TRIED = "tests/mutants_tried.txt"
 # A string or a character stays; a comment goes.
 TOKENS = {
@@ -37,8 +37,9 @@ def files_in(folder: str) -> list[str]:
 
 
 def digest(crate) -> str:
-    """Returns the digest of a crate's code, definitions, proofs and mutants."""
-    total = hashlib.sha256()
+    """Returns the digest of the toolchain's version, and of a crate's code, definitions, proofs and mutants."""
+    with open(f"{crate.kit}/KIT-ID", "rb") as version:
+        total = hashlib.sha256(version.read())
     for part in ("src", "specs", "proofs", edits.FOLDER):
         for path in files_in(f"{crate.folder}/{part}"):
             with open(path, encoding="utf-8") as held:
@@ -75,7 +76,8 @@ def turn(root: str) -> int:
 
 
 def keys_of(bodies: list) -> dict[int, str]:
-    """Returns a name for each body, by its place. Bodies that change a common function have one name."""
+    """Returns a name for each body, by its place. Bodies that change a common function have one
+    name."""
     names: dict[str, str] = {}
     for body in bodies:
         functions = [f"{it.file}:{it.name}" for it in body.functions]

@@ -54,7 +54,8 @@ def compile_programs(kit):
 
 
 def linked(kit):
-    """The toolchain's crates below what is built, by name: those that crates name, and those that these stand on."""
+    """Returns the toolchain's crates below what is built, by name: those that crates name, and
+    those that these stand on."""
     found = {"std"} | {name for top in listing.crates_of(kit, ROOT) if top.name in BUILT for it in [*top.below(), top] for name in it.of_kit}
     left = list(found)
     while left:

@@ -3,8 +3,8 @@ twice, a false doubt, an acknowledged line that is gone, or a damaged file that 
 the mistake the stand-in passes them."""
 
 import os
-import re
 
+from harness import bench as harness
 from worker import (
     counted, crowd, damage, entering, kills, making, persons, power, registers, remains, rounds,
     scene, staying, telling, texts,
@@ -111,25 +111,19 @@ CHEAPEST = 9
 
 
 def show(bench, mistake, test, wanted):
-    """The test passes without the mistake, and tells of it where it is made."""
-    again = scene.Bench(STAND_IN, bench.room, False, bench.seed)
-    test(again)
-    wrong, tries = None, 0
-    while not wrong and tries < 3:  # what comes of it may hang on who is faster
-        tries += 1
-        try:
-            wrong_bench = scene.Bench(STAND_IN, bench.room, False, bench.seed, mistake)
-            wrong_bench.watches = False  # so that it is seen what comes of it, and not that it is begun
-            test(wrong_bench)
-        except scene.Wrong as found:
-            wrong = str(found)
-    scene.want(wrong, f"{mistake} shows nothing in: {test.__doc__}")
-    scene.want(re.search(wanted, wrong), f"{mistake} shows something else: {wrong}")
+    """Returns what the test says of the mistake. Without the mistake the test passes."""
+    def mistaken():
+        found = scene.Bench(STAND_IN, bench.room, False, bench.seed, mistake)
+        found.watches = False  # the test must see the mistake's effect, and not its beginning
+        return found
+
+    test(scene.Bench(STAND_IN, bench.room, False, bench.seed))
+    wrong = harness.shown(mistake, test, mistaken, wanted, 3)
     return wrong.split(";")[0].replace("\n", " ")[:150]
 
 
 def control(mistake, test, wanted):
-    """The control of one mistake, as a test."""
+    """Returns the control of one mistake, as a test."""
 
     def try_control(bench):
         return f"shown: {show(bench, mistake, test, wanted)}"

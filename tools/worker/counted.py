@@ -1,6 +1,6 @@
-"""What the header of a round counts: a journal or `answers` that lacks a counted append is refused
-with how many there were, and so are a damaged `record`, another `jobs` and what is missing. What
-isn't counted reads as a crash leaves it, and no healthy run is refused."""
+"""The counts of a round's header. A journal or `answers` that lacks a counted append is refused
+with how many there were, and so are a damaged `record`, another `jobs` and a missing file. A part
+that isn't counted reads as a crash leaves it, and no healthy run is refused."""
 
 import contextlib
 import errno
@@ -29,8 +29,8 @@ KEPT = ("record", "jobs", *APPENDED)
 
 
 def run_of_rounds(bench) -> tuple:
-    """A run of five rounds, with 20 appends in the longer of two journals, and with answers; and
-    the bytes of its files after each round."""
+    """Returns a run of five rounds, with 20 appends in the longer of two journals, and with
+    answers; and the bytes of its files after each round."""
     scene, copies = bench.scene(LINES, 2), []
     for number, worker in enumerate(LIVES, 1):
         runner = Says(scene, worker, REPLIES if number < 5 else REPLIES[:3])
@@ -53,19 +53,19 @@ def answer_last(scene, worker: int) -> None:
 
 
 def appends_in(data: bytes) -> list:
-    """The appends in the bytes of a sound file."""
+    """Returns the appends in the bytes of a sound file."""
     return data[:-1].splitlines(keepends=True)
 
 
 def header_in(scene, data: bytes) -> headers.Header:
-    """The header in these bytes of the run's `record`."""
+    """Returns the header in these bytes of the run's `record`."""
     header = headers.Header(scene.id(), data)
     want(header.is_there and header.is_sound, f"the header is damaged: {data}")
     return header
 
 
 def records_of(copy: dict) -> dict:
-    """The records of each file in a copy of the run's files."""
+    """Returns the records of each file in a copy of the run's files."""
     return {name: [it[1:-10] for it in appends_in(copy[name])] for name in APPENDED}
 
 
@@ -112,7 +112,7 @@ def change(path: str, data: Optional[bytes]) -> None:
 
 
 def refusal_of(scene) -> Optional[tuple]:
-    """How the auditor refuses the run: the arguments of that; None if it takes it."""
+    """Returns the arguments of the auditor's refusal of the run, or None if it takes it."""
     try:
         scene.look()
     except folder.Refused as refused:
@@ -121,8 +121,8 @@ def refusal_of(scene) -> Optional[tuple]:
 
 
 def cut_one(scene, name: str, appends: list, length: int, rest: bytes) -> None:
-    """The file ends behind this append, and this rest: it is refused with what was counted, or, if
-    that is still there, read."""
+    """Tries a file that ends after this append, and this rest. It is refused with the counts, or,
+    if all counted appends are still there, read."""
     header = header_in(scene, read(f"{scene.run}/record"))
     count, data = header.counts[name][0], b"".join(appends[:length]) + rest
     wanted = (name, None, headers.fewer(length, count, header.round)) if length < count else None
@@ -134,8 +134,8 @@ def cut_one(scene, name: str, appends: list, length: int, rest: bytes) -> None:
 
 
 def cuts(scene) -> Iterator:
-    """Each file that is cut behind each of its appends, with nothing behind that, or with what a
-    crash leaves."""
+    """Yields each file that is cut after each of its appends, with nothing after that, or with the
+    bytes that a crash leaves."""
     for name in APPENDED:
         appends = appends_in(read(f"{scene.run}/{name}"))
         for length in range(len(appends) + 1):
@@ -146,7 +146,7 @@ def cuts(scene) -> Iterator:
 
 
 def try_counted_lost(bench) -> str:
-    """each append lost with all behind it, as by an earlier copy: refused with how many there are
+    """each append lost with all after it, as by an earlier copy: refused with how many there are
     and were, or, if it wasn't counted, read as a crash leaves it"""
     scene, _ = run_of_rounds(bench)
     count = each(some(bench, cuts(scene), 24, 85), cut_one)
@@ -157,7 +157,7 @@ def try_counted_lost(bench) -> str:
 
 
 def words_of_all(scene) -> dict:
-    """The words of each command that reads the files."""
+    """Returns the words of each command that reads the files."""
     work = [*scene.givens(), scene.jobs]
     return {"journal.1": ["work", "1", *work], "journal.2": ["work", "2", *work],
             "answers": ["answer", "1.2", "2", "job 2", "done"], "status": ["status"],
@@ -165,7 +165,8 @@ def words_of_all(scene) -> dict:
 
 
 def refuse_one(bench, scene, name: str, damaged: bytes) -> None:
-    """Who writes to this file refuses it, and some other commands too, and leave it as it was."""
+    """Wants the writers of this file, and some other commands, to refuse it, and to leave it as it
+    was."""
     words = words_of_all(scene)
     others = [words[it] for it in words if it != name]
     chosen = bench.draws.sample(others, 2 if bench.is_slow() else len(others))
@@ -189,8 +190,8 @@ def try_lost_to_all(bench) -> str:
 
 
 def copy_one(scene, copies: list, number: int, names: tuple) -> None:
-    """These files stand there as they were after an earlier round: refused if the header counts
-    more."""
+    """Puts these files back as they were after an earlier round. They are refused if the header
+    counts more."""
     with replaced(scene, {name: copies[number][name] for name in names}):
         see_copy(scene, copies[number], names)
 
@@ -270,8 +271,8 @@ def jobs_one(bench, scene, damaged: bytes) -> None:
 
 
 def try_jobs_damaged(bench) -> str:
-    """each byte of `jobs` is changed, or cut away with all behind it: refused; more lines behind
-    what was there are taken"""
+    """each byte of `jobs` is changed, or cut away with all after it: refused; more lines after the
+    old ones are taken"""
     scene, copies = run_of_rounds(bench)
     data, rows = copies[-1]["jobs"], []
     for place in some(bench, range(len(data)), 10, 60):
@@ -322,8 +323,8 @@ def rename_new(scene, name: str, data: bytes) -> None:
 
 
 def stop_one(scene, writer: Writer, words: list, number: int) -> None:
-    """A reader is stopped behind this call; appends are made, and a round begins that counts them;
-    it goes on, and refuses nothing."""
+    """Stops a reader after this call. Appends are made, and a round begins that counts them. The
+    reader goes on, and refuses nothing."""
     reader = Reader(scene, *words, faults=f"{number}:stop_after")
     while state_of(reader) not in "TZ":
         time.sleep(0.002)
@@ -353,7 +354,7 @@ def try_round_beside(bench) -> str:
 
 
 def reads_of(scene, words: list) -> list:
-    """The numbers of the calls by which a command reads the files that a round changes."""
+    """Returns the numbers of the calls by which a command reads the files that a round changes."""
     scene.logs = True
     scene.call(words[0], scene.run, *words[1:])
     scene.logs, calls = False, scene.logged()
@@ -363,7 +364,7 @@ def reads_of(scene, words: list) -> list:
 
 
 def life_of(bench) -> list:
-    """The calls of a life over a simulated disk that nothing befalls."""
+    """Returns the calls of a life over a simulated disk that nothing befalls."""
     scene = bench.scene(6, 2, makes=False)
     power = Power(scene, bench.draws)
     runner = Runner(scene, 1)
@@ -375,8 +376,8 @@ def life_of(bench) -> list:
 
 
 def commits(bench) -> Iterator:
-    """The calls at which a worker can end while nothing but its last append isn't on the disk: it
-    is killed at the write by which that counts, or the sync behind it fails."""
+    """Yields the calls at which a worker can end while only its last append isn't on the disk. It
+    is killed at the write by which that counts, or the sync after it fails."""
     calls = life_of(bench)
     for k, it in enumerate(calls):
         if it[2:4] == ["write", "journal.1"] and it[8] == "2b":
@@ -401,7 +402,7 @@ def cut_last_one(bench, number: int, fault: str) -> None:
 
 
 def doubtful(bench) -> tuple:
-    """A run over a simulated disk whose three lines are in doubt, one of them answered."""
+    """Returns a run over a simulated disk whose three lines are in doubt, one of them answered."""
     scene = bench.scene(3, 1, makes=False)
     power = Power(scene, bench.draws, fails="none")
     runner = Runner(scene, 1)
@@ -428,7 +429,8 @@ def cut_answer_one(bench, number: int, fault: str) -> None:
 
 
 def commits_of_answers(bench) -> list:
-    """The same calls of a person's answer."""
+    """Returns the calls at which a person's answer can end while only its last append isn't on the
+    disk."""
     scene, power = doubtful(bench)
     scene.answer(1, 2, 2, "not-done")
     calls = scene.logged()

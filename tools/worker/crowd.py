@@ -1,4 +1,5 @@
-"""Many at once: workers that are killed over and over while they do thousands of jobs, and readers beside each other."""
+"""Many at once: workers that are killed over and over while they do thousands of jobs, and readers
+next to each other."""
 
 import os
 import random
@@ -16,8 +17,9 @@ TRIES = 20  # of what has to come later on a loaded machine
 
 
 def drawn_kill(draws, filed, spare):
-    """A kill at a call: one of the first, one of those by which a worker comes back to its words, or one of those by which it
-    works, right after it has spoken or some lines later, the fewer the fewer lines there are for each kill to come."""
+    """Returns a kill at a call: one of the first, one of those by which a worker comes back to its
+    words, or one of those by which it works. The kill comes right after it has spoken or some lines
+    later, the fewer the fewer lines there are for each kill to come."""
     mood, when = draws.random(), draws.choice(["before", "after"])
     if mood < 0.15:
         return f"{draws.randint(1, 200)}:kill_{when}"
@@ -29,7 +31,7 @@ def drawn_kill(draws, filed, spare):
 
 
 class Late(Runner):
-    """A runner whose commands take a while: it answers some milliseconds after it was told."""
+    """A runner whose commands take a while: it answers some milliseconds after it got a line."""
 
     def __init__(self, scene, worker, draws):
         super().__init__(scene, worker)
@@ -59,7 +61,8 @@ def work_for(runners, seconds):
 
 
 def kill_crew(bench, lines, kills, seed):
-    """Four workers do these lines, and are killed so many times in all, at calls or from outside. Answers the run and its kills."""
+    """Four workers do these lines, and are killed so many times in all, at calls or from outside.
+    Returns the run and its kills."""
     draws = random.Random(seed)
     scene = bench.scene(lines, 4)
     runners = [Late(scene, p, draws) for p in range(1, 5)]
@@ -83,7 +86,8 @@ def kill_crew(bench, lines, kills, seed):
 
 
 def try_crew_killed(bench):
-    """four workers do 4,096 lines, and are killed 1,000 times in all: each line is performed once, once the doubts are answered"""
+    """four workers do 4,096 lines, and are killed 1,000 times in all: each line is performed once,
+    once the doubts are answered"""
     lines, kills = (4096, 1000) if bench.is_long else (128, 40)
     scene, count = kill_crew(bench, lines, kills, bench.seed)
     doubts = scene.doubts()
@@ -97,7 +101,7 @@ def try_crew_killed(bench):
 
 
 class Reader:
-    """A command beside others: what it says when it has ended."""
+    """A command that runs next to others, with its output once it has ended."""
 
     def __init__(self, scene, *words, faults=None):
         scene.bench.processes += 1
@@ -113,7 +117,7 @@ class Reader:
 
 
 class Counts:
-    """What readers have said that isn't so: how often each."""
+    """The false statements of readers, and how often each was made."""
 
     def __init__(self):
         self.wrong, self.readers, self.first = {}, 0, None
@@ -138,14 +142,14 @@ class Counts:
 
 
 def readers_of(scene, draws, count=READERS, asks="status"):
-    """So many readers at once, each of them slow at a call drawn at random. `status` records
+    """Starts so many readers at once, each of them slow at a call drawn at random. `status` records
     nothing, so the intent stays pending."""
     return [Reader(scene, asks, faults=f"{draws.randint(1, 90)}:slow") for _ in range(count)]
 
 
 def begin_beside(scene, counts, draws):
-    """A worker is begun beside readers, again if it has to come back: it gets on.
-    Nobody answers it, and it is killed."""
+    """Begins a worker next to readers, and again if it has to come back. It must get on. Nobody
+    answers it, and it is killed."""
     readers, runner = readers_of(scene, draws, 4), Runner(scene, 1)
     runner.was = lambda serial, line: None
     while not runner.lines and set(runner.statuses) <= {LATER} and len(runner.statuses) < TRIES:
@@ -158,7 +162,7 @@ def begin_beside(scene, counts, draws):
 
 
 def answer_beside(scene, counts, draws):
-    """A person answers beside readers, again if that has to come later: the answer is taken."""
+    """Answers next to readers, and again if that has to come later. The answer must be taken."""
     readers = readers_of(scene, draws, 4)
     words = ["answer", "1.1", "1", "job 1", "not-done", "--now"]
     for _ in range(TRIES):
@@ -174,7 +178,8 @@ def answer_beside(scene, counts, draws):
 
 
 def read_beside_each_other(bench, counts, seed):
-    """Readers beside each other, beside a worker that begins, and beside a person who answers, over a run in doubt."""
+    """Runs readers next to each other, to a worker that begins, and to a person who answers, over a
+    run in doubt."""
     draws, scene = random.Random(seed), answerable(bench)
     for _ in range(10 if bench.is_long else 4):
         for it in readers_of(scene, draws):
@@ -188,7 +193,8 @@ def read_beside_each_other(bench, counts, seed):
 
 
 def try_readers_beside_each_other(bench):
-    """8 readers at once beside a dead worker and its doubt: all say the same, and keep no worker and no person from going on"""
+    """8 readers at once, with a dead worker and its doubt: all print the same, and keep no worker
+    and no person from going on"""
     counts = Counts()
     for k in range(40 if bench.is_long else 1):
         if bench.has_time():
@@ -198,7 +204,7 @@ def try_readers_beside_each_other(bench):
 
 
 def descendants(process):
-    """The processes that this one has begun, and those that these have."""
+    """Returns the processes that this one has begun, and those that these have."""
     found = []
     for child in read(f"/proc/{process}/task/{process}/children").split():
         found += [int(child), *descendants(int(child))]
@@ -206,7 +212,8 @@ def descendants(process):
 
 
 def stay_with_workers(bench):
-    """A worker with a line in its hand, one that is stopped, and a partner in shell with its worker; then nothing more."""
+    """A worker with a line in its hand, one that is stopped, and a partner in shell with its
+    worker; then nothing more."""
     scene = bench.scene(4096, 3)  # (so many that the partner comes to no end while it is looked at)
     first, second = Waiting(scene, 1), Runner(scene, 2)
     serve([first.start()], until=lambda: first.lines)

@@ -27,12 +27,12 @@ ANSWERS = {2: "not-done", 4: "done", 5: "done", 7: "done", 8: "not-done"}
 
 
 def run_of_journal(bench) -> Scene:
-    """A run whose journal.1 has 20 appends, of 19 attempts and what came of each."""
+    """Returns a run whose journal.1 has 20 appends, of 19 attempts and what came of each."""
     return prepared(bench, REPLIES, lines=21)
 
 
 def run_of_answers(bench) -> Scene:
-    """A run whose `answers` has 5 appends."""
+    """Returns a run whose `answers` has 5 appends."""
     scene = run_of_journal(bench)
     for serial, verdict in ANSWERS.items():
         scene.answer(1, serial, serial, verdict)
@@ -40,24 +40,24 @@ def run_of_answers(bench) -> Scene:
 
 
 def cases(bench) -> Iterator:
-    """Each file that is damaged: its run, its name, and its appends."""
+    """Yields each file that is damaged: its run, its name, and its appends."""
     for scene, name in ((run_of_journal(bench), "journal.1"), (run_of_answers(bench), "answers")):
         yield scene, name, read(f"{scene.run}/{name}")[:-1].splitlines(keepends=True)
 
 
 def file_of(appends: list) -> bytes:
-    """The bytes of a file of these appends."""
+    """Returns the bytes of a file of these appends."""
     return b"".join(appends) + b"-"
 
 
 def records_of(appends: list) -> list:
-    """The records of these appends, whatever their checksums are."""
+    """Returns the records of these appends, whatever their checksums are."""
     return [it[1:-10] for it in appends]
 
 
 def some(bench, rows: Iterable, few: int, many: int) -> list:
-    """All of these in the long form, else as many as a worker that is slow, or quick, has time
-    for."""
+    """Returns all of these in the long form, else as many as a worker that is slow, or quick, has
+    time for."""
     rows = list(rows)
     count = few if bench.is_slow() else many
     return rows if bench.is_long else bench.draws.sample(rows, min(count, len(rows)))
@@ -87,7 +87,7 @@ def try_form(bench) -> None:
 
 
 def flipped(data: bytes, bit: int) -> bytes:
-    """The bytes with one bit flipped."""
+    """Returns the bytes with one bit flipped."""
     return data[:bit // 8] + bytes([data[bit // 8] ^ 1 << bit % 8]) + data[bit // 8 + 1:]
 
 
@@ -102,7 +102,7 @@ def try_flipped(bench) -> str:
 
 
 def try_cut_at_each_byte(bench) -> str:
-    """each byte is cut off the end: refused, unless the file ends behind an append"""
+    """each byte is cut off the end: refused, unless the file ends after an append"""
     count = 0
     for scene, name, appends in cases(bench):
         data = file_of(appends)
@@ -113,8 +113,8 @@ def try_cut_at_each_byte(bench) -> str:
 
 
 def moved(appends: list) -> Iterator:
-    """The appends with two neighbours exchanged, for each such pair, and without one of them, for
-    each but the last."""
+    """Yields the appends with two neighbours exchanged, for each such pair, and without one of
+    them, for each but the last."""
     for k in range(len(appends) - 1):
         yield [*appends[:k], appends[k + 1], appends[k], *appends[k + 2:]]
         yield appends[:k] + appends[k + 1:]
@@ -146,7 +146,7 @@ def copy_one(scene, name: str, appends: list) -> None:
 
 
 def run_of_two(bench) -> Scene:
-    """A run in which two workers have journals of the same length, and answers."""
+    """Returns a run in which two workers have journals of the same length, and answers."""
     scene = bench.scene(12, 2)
     for worker in (1, 2):
         runner = Says(scene, worker, ["done 0", "untouched 75"])
@@ -178,8 +178,8 @@ def try_of_others(bench) -> None:
 
 
 def ends_of(scene, name: str, appends: list) -> Iterator:
-    """Bytes that no crash leaves behind the last append, each with the number of the append where
-    that shows, and the problem."""
+    """Yields bytes that no crash leaves after the last append, each with the number of the append
+    that is refused, and the problem."""
     records = records_of(appends)
     more = journals.appends(scene.id(), name, [*records, records[-1], records[-1]])[-2:]
     one, two, count = more[0][1:], more[1][1:], len(records) + 1
@@ -245,7 +245,7 @@ def try_refused_by_all(bench) -> str:
 
 class Writer(threading.Thread):
     """Appends to a journal as a worker does, now and then as one that dies in between and comes
-    back, until it is told to end. All attempts are at one line, and were never begun."""
+    back, until it must end. All attempts are at one line, and were never begun."""
 
     def __init__(self, scene, name: str, line: int, seed: str):
         super().__init__()
@@ -266,7 +266,7 @@ class Writer(threading.Thread):
         os.fsync(self.file.fileno())
 
     def next_line(self) -> bytes:
-        """The next append, behind its commit byte."""
+        """Returns the next append, after its commit byte."""
         serial = self.count // 2 + 1
         record = b"unbegun %d" % serial if self.count % 2 else b"intent %d %d 1" % (serial,
                                                                                     self.line)
@@ -310,7 +310,7 @@ def try_beside_a_writer(bench) -> str:
 
 
 def calls_of_status(scene) -> list:
-    """The calls by which status reads the files."""
+    """Returns the calls by which status reads the files."""
     scene.logs = True
     scene.call("status", scene.run)
     scene.logs, calls = False, scene.logged()
@@ -319,7 +319,7 @@ def calls_of_status(scene) -> list:
 
 
 def stop_one(scene, writer: Writer, number: int) -> None:
-    """A reader is stopped behind this call; two appends are made; it goes on, and refuses
+    """Stops a reader after this call. Two appends are made. The reader goes on, and refuses
     nothing."""
     reader = Reader(scene, "status", faults=f"{number}:stop_after")
     while state_of(reader) not in "TZ":

@@ -1,12 +1,12 @@
-"""A disk that is simulated: what a cut of power may leave of a run, as the log of the calls says.
+"""A simulated disk: the files that a cut of power may leave of a run, by the log of the calls.
 
-Of each file is known what the last sync kept, and the writes and cuts since; of the folder its
-names as they were kept, and the makes, renames and removals since. A cut of power leaves each of
-the latter there or not, each write torn byte by byte, and each shortening there or not. We suppose
-that each byte of a torn write is then the old one or the new one, or, behind the end that the file
-had on the disk, 0 or the new one. After a sync that failed, each byte that it should have kept is
-there or not for good: no later sync keeps it, unless it is written again; and so is a shortening,
-unless the file is cut again.
+For each file it has the bytes that the last sync kept, and the writes and cuts since; for the
+folder its names as they were kept, and the makes, renames and removals since. A cut of power leaves
+each of the latter there or not, each write torn byte by byte, and each shortening there or not. We
+assume that each byte of a torn write is then the old one or the new one, or, after the end that the
+file had on the disk, 0 or the new one. After a sync that failed, each byte that it should have kept
+is there or not for good: no later sync keeps it, unless it is written again; and so is a
+shortening, unless the file is cut again.
 """
 
 import os
@@ -18,7 +18,7 @@ from worker.scene import Wrong, want
 
 
 def records_left(run: str, name: str, data: bytes) -> list:
-    """The records in what a disk holds of a journal; it is never damaged."""
+    """Returns the records in what a disk holds of a journal; it is never damaged."""
     try:
         return journals.records_of(run, name, data)
     except journals.Damaged as damaged:
@@ -26,7 +26,7 @@ def records_left(run: str, name: str, data: bytes) -> list:
 
 
 class File:
-    """What is read of a file, what the disk keeps of it, and what was done since."""
+    """A file: the bytes that are read of it, those that the disk keeps, and the calls since."""
 
     def __init__(self, data=b""):
         self.now, self.kept, self.pending = bytearray(data), bytearray(data), []
@@ -41,7 +41,8 @@ class File:
         self.pending.append((length, None))
 
     def left(self, draws, how):
-        """What a cut of power leaves: nothing of what is pending, the first of it, all of it, or what is drawn."""
+        """Returns the bytes that a cut of power leaves: nothing of the pending calls, the first of
+        them, all of them, or a drawn part."""
         data = bytearray(self.kept)
         for place, new in self.pending[:1 if how == "first" else None]:
             if how in ("first", "all") or how == "drawn" and draws.random() < 0.3:
@@ -55,8 +56,8 @@ class File:
 
     @staticmethod
     def tear(data, place, new, draws):
-        """A part of the write: each byte is the old one or the new one, and behind the old end, up
-        to an end that is drawn, 0 or the new one."""
+        """Tears a write. Each byte is the old one or the new one. After the old end, up to an end
+        that is drawn, it is 0 or the new one."""
         end = draws.randint(len(data), max(len(data), place + len(new)))
         data[len(data):] = bytes(end - len(data))
         for at in range(place, min(place + len(new), end)):
@@ -124,7 +125,7 @@ class Disk:
             self.see_said(handle[0], bytes.fromhex(more))
 
     def rename(self, old: str, new: str) -> None:
-        """A file gets another name, or a folder that was made beside gets the run's."""
+        """Gives a file another name, or the run's name to a folder that was made next to it."""
         if new != ".":
             self.names[new] = self.names.pop(old)
             self.moves.append((old, new, self.names[new]))
@@ -175,7 +176,8 @@ class Disk:
             self.kept, self.moves = dict(self.names), []
 
     def see_said(self, process, text):
-        """Before a perform is said its intent has to be on the disk for certain, and each name on which it rests."""
+        """Wants the intent to be on the disk for certain before a perform is printed, and each name
+        on which it rests."""
         for said in (it for it in text.split(b"\n") if it.startswith(b"perform ")):
             serial, line, name = *said.split(b" ")[1:3], self.journals.get(process, "journal.1")
             journal, jobs = self.names[name], self.names.get("jobs")
@@ -194,12 +196,13 @@ class Disk:
             want(self.is_kept, f"{what}, and the folder above isn't synced since the run's folder was made")
 
     def records_kept(self, name: str) -> list:
-        """The records of a journal that are on the disk."""
+        """Returns the records of a journal that are on the disk."""
         run = bytes(self.names["id"].now).decode().strip()
         return records_left(run, name, bytes(self.names[name].kept))
 
     def cut(self, how):
-        """The folder, as it may be after a cut of power: names and their bytes; None where the folder itself is gone."""
+        """Returns the folder, as it may be after a cut of power: names and their bytes; None where
+        the folder itself is gone."""
         if not self.is_kept and (how == "none" or how == "drawn" and self.draws.random() < 0.5):
             return None
         names = dict(self.kept)
@@ -228,12 +231,13 @@ class Power:
             self.begin()
 
     def begin(self):
-        """Makes the folder by the door if there is none."""
+        """Makes the folder by the door if it is missing."""
         if not os.path.isdir(self.scene.run):
             self.scene.door()
 
     def cut(self, runners=(), how="drawn", begins=True):
-        """Ends all at one moment, and leaves the folder as the disk may have kept it; the machine starts anew."""
+        """Ends all at one moment, and leaves the folder as the disk may have kept it; the machine
+        starts anew."""
         with self.scene.still():
             for it in runners:
                 it.close()
@@ -258,14 +262,15 @@ class Power:
             self.disk = Disk(self.scene, self.draws, self.fails)
 
     def keep(self, left, jobs):
-        """Puts the log and what was left away, for who looks for the cause of something wrong, and begins another log."""
+        """Puts the log and what was left away, for who looks for the cause of something wrong, and
+        begins another log."""
         os.rename(self.scene.log, f"{self.scene.log}.{self.scene.boots}")
         open(self.scene.log, "wb").close()
         with open(f"{self.scene.room}/left.{self.scene.boots}", "w") as file:
             file.write("".join(f"{name} {data}\n" for name, data in [("JOBS", jobs), *(left or {}).items()]))
 
     def runners_files(self, how):
-        """Of the locks that runners made, which nobody syncs, those that are left."""
+        """Returns those of the locks of runners, which nobody syncs, that are left."""
         there = os.listdir(self.scene.run) if os.path.isdir(self.scene.run) else ()
         names = [it for it in there if it.startswith(("runner.", "command."))]
         return [it for it in names if how == "all" or how == "drawn" and self.draws.random() < 0.5]
@@ -282,7 +287,8 @@ class Power:
                 file.write(data)
 
     def close(self):
-        """Replays what was logged since the last cut, for what has to be on the disk before each perform; how many were said."""
+        """Replays the log since the last cut, for the bytes that must be on the disk before each
+        perform. Returns how many performs were printed."""
         self.disk.replay()
         return self.performs + self.disk.performs
 

@@ -1,5 +1,5 @@
-"""What lets a worker in, and what it waits for: its number, the boot id, the path of the folder,
-what earlier processes have left half made, locks that others hold for a while or for ever."""
+"""The conditions on which a worker begins, and its waits: its number, the boot id, the path of the
+folder, the half-made files of earlier processes, locks that others hold for a while or for ever."""
 
 import fcntl
 import os
@@ -17,7 +17,7 @@ from worker.scene import (DOOR, LATER, OVER, READ, REFUSED, WORDS, Runner, each,
 
 
 def is_stand_in(bench):
-    """The stand-in does less here than the program."""
+    """Returns whether the program is the stand-in, which does less here."""
     if bench.is_slow():
         bench.skipped.append("the stand-in is let in by less")
     return bench.is_slow()
@@ -31,7 +31,8 @@ def get_in(scene, worker, status, named=""):
 
 
 def try_each_number(bench):
-    """each number of a worker beside each number of workers, and thresholds of all sizes: it begins, or the number is none"""
+    """each number of a worker with each number of workers, and thresholds of all sizes: it begins,
+    or the number is refused"""
     scene = bench.scene(0)
     for workers in range(1, 17):
         scene.workers = workers
@@ -75,7 +76,8 @@ def try_boot_ids(bench):
 
 
 def go_by(bench, path):
-    """The run's folder by another path: the door makes it and syncs the one above, and a worker works there."""
+    """The run's folder by another path: the door makes it and syncs the one above, and a worker
+    works there."""
     scene = bench.scene(2, 1, makes=False)
     os.chdir(scene.room)
     os.symlink(scene.room, "link")
@@ -99,7 +101,7 @@ def try_paths(bench):
 
 
 def refused_before(bench, prepare, status):
-    """What can't be that of a run is refused before the folder is made."""
+    """Wants a folder that can't be a run's to be refused before anything is made."""
     scene = bench.scene(1, 1, makes=False)
     run = prepare(scene) or scene.run
     for command, wanted in ((["door", run], status), (["work", run, "1"], READ)):
@@ -113,14 +115,15 @@ def refused_before(bench, prepare, status):
 
 
 def in_memory(scene):
-    """A folder that isn't there, by a link that leads to a file system in memory."""
+    """Returns a folder that isn't there, by a link that leads to a file system in memory."""
     scene.memory = tempfile.TemporaryDirectory(dir="/dev/shm")
     os.symlink(scene.memory.name, f"{scene.room}/link")
     return f"{scene.room}/link/run"
 
 
 def try_nothing_is_made(bench):
-    """a list that is refused or isn't there, a folder above that isn't there or lies in memory: the run's folder isn't made"""
+    """a list that is refused or isn't there, a folder above that isn't there or lies in memory: the
+    run's folder isn't made"""
     rows = [(lambda scene: scene.write_jobs(["a", "", "b"]), REFUSED), (lambda scene: scene.write_jobs(["a"], ""), REFUSED),
             (lambda scene: os.unlink(scene.jobs), READ), (lambda scene: f"{scene.room}/none/run", READ)]
     if any(" /dev/shm " in it and " - tmpfs " in it for it in folder.read("/proc/self/mountinfo").decode().splitlines()):
@@ -146,7 +149,7 @@ class System:
 
 
 def mount_id(path: str) -> str:
-    """The id of the mount on which a folder lies."""
+    """Returns the id of the mount on which a folder lies."""
     file = os.open(path, os.O_RDONLY)
     try:
         told = folder.read(f"/proc/self/fdinfo/{file}").decode()
@@ -156,8 +159,8 @@ def mount_id(path: str) -> str:
 
 
 def mounted(scene, kind: str, options: str, more: str, defaults: str) -> System:
-    """The folder above the run's lies on such a mount.
-    Others, before it and behind it, have its path."""
+    """Returns a system in which the folder above the run's lies on such a mount. Others, before it
+    and after it, have its path."""
     system, number = System(scene), mount_id(scene.room)
     other = f"1 8:1 / {scene.room} rw - tmpfs none rw"
     mount = (f"{number} 1 8:99 /sub {scene.room} {options} shared:7 master:1"
@@ -236,7 +239,8 @@ def try_mounts(bench):
 
 
 def try_half_made(bench):
-    """what a killed process left under the names of files that are made whole is written over, all of it"""
+    """what a killed process left under the names of files that are made whole is written over, all
+    of it"""
     for kind in (b"x" * 10000 + b"\n", b""):
         scene = bench.scene(4)
         for name in ("record", "jobs", "words"):
@@ -250,7 +254,8 @@ def try_half_made(bench):
 
 
 def try_nothing_is_removed(bench):
-    """in a life no file is removed, files are their owner's alone, and each word is read and written whole, at its place"""
+    """in a life no file is removed, files are their owner's alone, and each word is read and
+    written whole, at its place"""
     if is_stand_in(bench):
         return
     os.umask(0)
@@ -266,7 +271,8 @@ def try_nothing_is_removed(bench):
 
 
 def hold_one(bench, number):
-    """A worker stopped at this call has its number and its part in the round, or begins one alone."""
+    """A worker stopped at this call has its number and its part in the round, or begins one
+    alone."""
     scene = bench.scene(4, 2)
     runner = Runner(scene, 1)
     serve([runner.start(f"{number}:stop_before")], until=lambda: state_of(runner) in "TZ")
@@ -275,7 +281,8 @@ def hold_one(bench, number):
 
 
 def try_what_a_worker_holds(bench):
-    """who begins a round or is at work in it holds its lock, and that of its number, until its part is over"""
+    """who begins a round or is at work in it holds its lock, and that of its number, until its part
+    is over"""
     calls = first_life(bench)
     calls = calls[:next(k for k, it in enumerate(calls) if is_over(it))]
     chosen = [it for it in calls if it[2] == "rename" or it[2:4] == ["sync", "."] or it[2] == "say"]
@@ -284,7 +291,7 @@ def try_what_a_worker_holds(bench):
 
 
 def refused_locks(scene, name):
-    """How often a lock on this file was asked for and not got."""
+    """Returns how often a lock on this file was asked for and not got."""
     return sum(it[2:4] == ["lock", name] and int(it[7]) < 0 for it in scene.logged())
 
 
@@ -306,15 +313,16 @@ def wait_for(bench, name, times):
 
 
 def try_locks_that_come_free(bench):
-    """a number, or a round that is begun, held by another for a moment: it is tried again, and the worker goes on"""
+    """a number, or a round that is begun, held by another for a moment: it is tried again, and the
+    worker goes on"""
     if is_stand_in(bench):
         return
     each(((bench, *row) for row in (("journal.1", 3), ("lock.round", 4))), wait_for)
 
 
 def begun_anew(bench):
-    """A run with two attempts in doubt:
-    one that is noted as such, and one that nobody holds any more."""
+    """Returns a run with two attempts in doubt: one that is noted as such, and one that nobody
+    holds any more."""
     scene = bench.scene(4, 1)
     runner = Says(scene, 1, ["doubt", "dies"])
     live(runner)
@@ -327,7 +335,7 @@ def kept_answers(scene):
 
 
 def sheet_of(scene, *rows):
-    """These answers, from a file: the status, how many are taken, and what is said."""
+    """Gives these answers from a file: the status, how many are taken, and the output."""
     before, path = kept_answers(scene), f"{scene.room}/sheet"
     with open(path, "w") as file:
         file.write("".join(f"{row}\n" for row in rows))
@@ -354,7 +362,8 @@ def try_sheets_beside_who_begins(bench):
 
 
 def try_locks_for_ever(bench):
-    """locks that others keep: after some seconds a worker and a person are told so; who only looks is shown all the same"""
+    """locks that others keep: after some seconds a worker and a person get a message; a command
+    that only looks works all the same"""
     if is_stand_in(bench):
         return
     scene = prepared(bench, ["doubt", "untouched 75"], lines=3)
@@ -388,7 +397,8 @@ def try_locks_for_ever(bench):
 
 
 def try_last_words(bench):
-    """the last words of the largest round: worker 16 comes back to a row of all jobs but one, and files that"""
+    """the last words of the largest round: worker 16 comes back to a row of all jobs but one, and
+    files that"""
     scene = bench.scene(4096, 16)
     runner, last = Runner(scene, 1), Runner(scene, 16)
     runner.leaves = True

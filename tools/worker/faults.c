@@ -141,7 +141,7 @@ static void end_by(int signal) {
   syscall(SYS_kill, syscall(SYS_getpid), signal);
 }
 
-/* Whether it needs room on the disk. */
+/* Returns whether it needs room on the disk. */
 static int takes_room(const struct call *call) {
   static const char *const those[] = {"write", "cut", "sync", "rename", "folder", "link"};
   for (int k = 0; k < 6; k++)

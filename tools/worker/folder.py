@@ -1,8 +1,8 @@
-"""The folder of a run, read by itself: an auditor that shares nothing with the program.
+"""The folder of a run, as an auditor reads it that shares nothing with the program.
 
 Journals and `answers` have the form of worker/journals.py, and the header `record` has that of
-worker/headers.py. A line is open where each intent of it,
-in all journals, was answered `unbegun` or found `not-done`.
+worker/headers.py. A line is open if each intent of it, in all journals, was answered `unbegun` or
+found `not-done`.
 """
 
 import fcntl
@@ -30,8 +30,8 @@ TAKEN = "ext2 ext3 ext4 xfs btrfs f2fs zfs".split()
 
 
 class Refused(Exception):
-    """A file that is none: its name, the number of the append where that shows, or None if it is
-    the file as a whole that is wrong, and what is wrong with it."""
+    """A file that is refused: its name, the number of the append that is refused, or None for the
+    file as a whole, and the problem."""
 
     def __str__(self) -> str:
         name, place, wrong = self.args
@@ -39,7 +39,7 @@ class Refused(Exception):
 
 
 def read(path):
-    """The bytes of a file; of one that isn't there, none."""
+    """Returns the bytes of a file; of one that isn't there, none."""
     try:
         with open(path, "rb") as file:
             return file.read()
@@ -61,8 +61,8 @@ def make(run: str) -> None:
 
 
 def make_old(run: str) -> None:
-    """Makes a run's folder one of amo 0.1.0, which had no checksums, made no file before there was
-    something to put into it, and left a journal empty for a moment."""
+    """Makes a run's folder one of amo 0.1.0. That version had no checksums, made no file before it
+    had something to put into it, and left a journal empty for a moment."""
     records = {name: records_in(run, name) for name in PARTS if name != "lock.round"}
     os.unlink(f"{run}/id")
     if header := read(f"{run}/record"):
@@ -75,7 +75,7 @@ def make_old(run: str) -> None:
 
 
 def type_of(path: str) -> str:
-    """The type of the file system on which a folder lies."""
+    """Returns the type of the file system on which a folder lies."""
     file = os.open(path, os.O_RDONLY | os.O_DIRECTORY)
     words = read(f"/proc/self/fdinfo/{file}").split()
     os.close(file)
@@ -85,7 +85,8 @@ def type_of(path: str) -> str:
 
 
 def listing(folder: str) -> dict:
-    """All that a write would change in a folder: its own times, and of each file what it is."""
+    """Returns all that a write would change in a folder: its own times, and of each file what it
+    is."""
     found = {".": os.stat(folder)}
     found.update({name: os.lstat(f"{folder}/{name}") for name in os.listdir(folder)})
     return {name: (it.st_ino, it.st_size, it.st_mode, it.st_mtime_ns, it.st_ctime_ns)
@@ -93,21 +94,21 @@ def listing(folder: str) -> dict:
 
 
 def contents(folder: str) -> dict:
-    """What each file of a folder is and holds;
-    who settles a journal may write the same bytes anew."""
+    """Returns the kind and the content of each file of a folder. A command that recovers a journal
+    may write the same bytes anew."""
     names = [it for it in os.listdir(folder) if os.path.isfile(f"{folder}/{it}")]
     return {name: (os.stat(f"{folder}/{name}").st_ino, read(f"{folder}/{name}")) for name in names}
 
 
 def id_of(run: str) -> str:
-    """The run's id; in a folder of amo 0.1.0 none."""
+    """Returns the run's id; in a folder of amo 0.1.0 none."""
     return read(f"{run}/id").decode("latin-1").strip()
 
 
 def records_in(run: str, name: str, header: Optional[headers.Header] = None) -> list:
-    """The records of a journal or of `answers`, which has to have what a header counts that was
-    read before. Beside a writer a read may show bytes that never stood there, so what is damaged
-    is read until it is sound, or stands there still."""
+    """Returns the records of a journal or of `answers`, which has to have what a header counts that
+    was read before. Beside a writer a read may show bytes that never stood there, so what is
+    damaged is read until it is sound, or stands there still."""
     run_id, before = id_of(run), None
     while True:
         data = read(f"{run}/{name}")
@@ -129,12 +130,12 @@ def records_in(run: str, name: str, header: Optional[headers.Header] = None) -> 
 
 
 def single_records(run: str, name: str) -> list:
-    """Each record of a journal or of `answers`, apart from the other of its append."""
+    """Returns each record of a journal or of `answers`, apart from the other of its append."""
     return [part for it in records_in(run, name) for part in journals.parts(it)]
 
 
 def header_in(run: str) -> Optional[headers.Header]:
-    """The header of a run; None in a folder of amo 0.1.0, whose header counts nothing."""
+    """Returns the header of a run; None in a folder of amo 0.1.0, whose header counts nothing."""
     run_id = id_of(run)
     if not run_id:
         return None
@@ -145,7 +146,7 @@ def header_in(run: str) -> Optional[headers.Header]:
 
 
 def said_by(pattern, record):
-    """The word and the numbers of a record, or None."""
+    """Returns the word and the numbers of a record, or None."""
     found = pattern.fullmatch(record)
     words = [it for it in found.groups() if it is not None] if found else []
     numbers = [int(it) for it in words[1:]]
@@ -172,7 +173,8 @@ class Intent:
 
 
 def intents_of(worker, records, count, entry=ENTRY):
-    """The intents of a journal whose lines are 1..count; of each append its one or two records."""
+    """Returns the intents of a journal whose lines are 1..count; of each append its one or two
+    records."""
     intents, name = [], f"journal.{worker}"
     for place, record in ((place, it) for place, append in enumerate(records, 1)
                           for it in journals.parts(append)):
@@ -189,7 +191,7 @@ def intents_of(worker, records, count, entry=ENTRY):
 
 
 class Folder:
-    """What stands in a run's folder: the header is read first, then answers, then journals, then
+    """The content of a run's folder. The header is read first, then answers, then journals, then
     jobs, so that workers may go on meanwhile."""
 
     def __init__(self, run):
@@ -202,8 +204,8 @@ class Folder:
         self.take_answers(answers)
 
     def read_records(self):
-        """The records of answers, and those of each journal by its number; once more if there are
-        some and no header."""
+        """Returns the records of answers, and those of each journal by its number; once more if
+        there are some and no header."""
         for _ in range(2):
             self.header = header_in(self.run)
             answers = records_in(self.run, "answers", self.header)
@@ -234,7 +236,7 @@ class Folder:
             it.found = word
 
     def of_line(self, line):
-        """The intents by which a line is closed."""
+        """Returns the intents by which a line is closed."""
         return [it for it in self.intents.values() if it.line == line and not it.opens()]
 
     def open_lines(self):
@@ -245,7 +247,7 @@ class Folder:
         return [it for it in self.intents.values() if it.answer is None]
 
     def kinds(self, final=()):
-        """Of each line its kind, where these pending intents, as P and S, are final doubts."""
+        """Returns the kind of each line, if these pending intents, as P and S, are final doubts."""
         found = dict.fromkeys(range(1, len(self.lines) + 1), "open")
         for it in self.intents.values():
             if not it.opens() and found[it.line] != "running":
@@ -257,13 +259,13 @@ class Folder:
         return {"lines": len(kinds), **{kind: kinds.count(kind) for kind in KINDS}}
 
     def final(self):
-        """The pending intents that nobody can perform any more, as the locks say now."""
+        """Returns the pending intents that nobody can perform any more, as the locks say now."""
         locks = {it: (f"journal.{it.worker}", f"runner.{it.worker}", f"command.{it.name()}") for it in self.pending()}
         return {(it.worker, it.serial) for it in locks if all(is_free(f"{self.run}/{name}") for name in locks[it])}
 
 
 def is_free(path):
-    """Whether nobody holds a lock on this file; one that isn't there nobody holds."""
+    """Returns whether nobody holds a lock on this file; one that isn't there nobody holds."""
     try:
         with open(path, "rb") as file:
             fcntl.flock(file, fcntl.LOCK_EX | fcntl.LOCK_NB)
@@ -275,7 +277,8 @@ def is_free(path):
 
 
 def record_of(run):
-    """What the record says: round, boot, n, m, beta, workers, first, and the lines; None where there is none."""
+    """Returns the content of the record: round, boot, n, m, beta, workers, first, and the lines;
+    None if it is missing."""
     data = read(os.path.join(run, "record"))
     front = data if data.startswith(b"amo-run 1\n") else headers.front_of(data)
     texts = front.decode().split("\n")
@@ -288,8 +291,8 @@ def record_of(run):
 
 
 def rows_of(run, boot):
-    """Of each worker of the words its count of claims, its announcement and its row; nothing where record and words are of
-    another boot, or don't fit."""
+    """Returns for each worker of the words its count of claims, its announcement and its row.
+    Returns nothing if record and words are of another boot, or don't fit."""
     record, data = record_of(run), read(f"{run}/words")
     size = record["m"] * (record["n"] + 3) + 1 if record else 0
     head = f"\nround {record['round']}\nboot {record['boot']}\n" if record else ""

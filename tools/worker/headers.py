@@ -19,20 +19,20 @@ FRONT = re.compile(rb"amo-run ([12])\nround N\nboot ([^\n]*)\ngivens N N N\nwork
 
 
 def seal(run: str, body: bytes) -> bytes:
-    """The seal of a header with these bytes before it."""
+    """Returns the seal of a header with these bytes before it."""
     return journals.digits(journals.seed(run, "record") + body)
 
 
 def counted(run: str, name: str, records: list) -> tuple:
-    """How many appends a header counts of a file with these records, and the checksum of the last
-    of them."""
+    """Returns how many appends a header counts of a file with these records, and the checksum of
+    the last of them."""
     count = max(len(records) - 1, 0)
     return count, journals.checksums(run, name, records)[count]
 
 
 def text(run: str, front: bytes, jobs: bytes, records: dict) -> bytes:
-    """The bytes of a header: of a round that `front` says, which was begun with these jobs, and
-    with these records of each file that has some."""
+    """Returns the bytes of a header: of a round that `front` says, which was begun with these jobs,
+    and with these records of each file that has some."""
     body = front + b"jobs %d %s\n" % (len(jobs), hashlib.sha256(jobs).hexdigest().encode())
     for name in FILES:
         count, checksum = counted(run, name, records.get(name, []))
@@ -41,17 +41,17 @@ def text(run: str, front: bytes, jobs: bytes, records: dict) -> bytes:
 
 
 def front_of(data: bytes) -> bytes:
-    """The part of a header that says what the round's workers need."""
+    """Returns the part of a header that says what the round's workers need."""
     return data[:data.rfind(b"\njobs ") + 1]
 
 
 def old_header(data: bytes) -> bytes:
-    """The header that amo 0.1.0 would have written for the same round."""
+    """Returns the header that amo 0.1.0 would have written for the same round."""
     return front_of(data).replace(b"amo-run 2\n", b"amo-run 1\n", 1)
 
 
 class Header:
-    """What a header says, and of each file how many appends it counts, with a checksum. Without
+    """The content of a header: for each file how many appends it counts, with a checksum. Without
     bytes it is the header of a run that has none."""
 
     def __init__(self, run: str, data: bytes):
@@ -74,31 +74,32 @@ class Header:
         return True
 
     def lost(self, name: str, checksums: List[bytes]) -> Optional[str]:
-        """What a file with these checksums lacks of what was counted; None if it has all of it."""
+        """Returns the counted appends that a file with these checksums lacks; None if it has all of
+        them."""
         count, checksum = self.counts.get(name, (0, checksums[0]))
         if len(checksums) <= count:
             return fewer(len(checksums) - 1, count, self.round)
         return None if checksums[count] == checksum else another(count, self.round)
 
     def has_jobs(self, jobs: bytes) -> bool:
-        """Whether `jobs` begins with what it was when the round began."""
+        """Returns whether `jobs` begins with what it was when the round began."""
         front = jobs[:self.length]
         return (len(front) == self.length
                 and hashlib.sha256(front).hexdigest().encode() == self.digest)
 
 
 def fewer(there: int, count: int, number: int) -> str:
-    """What is said of a file that has fewer appends than a round counted."""
+    """Returns the message on a file that has fewer appends than a round counted."""
     return f"it has {there} appends, and {count} were on the disk when round {number} began"
 
 
 def another(count: int, number: int) -> str:
-    """What is said of a file in which the last counted append is another one."""
+    """Returns the message on a file in which the last counted append is another one."""
     return f"append {count} is another one than when round {number} began"
 
 
 def pattern(said: str) -> str:
-    """A pattern for this text, which may have its singular for one append."""
+    """Returns a pattern for this text, which may have its singular for one append."""
     found = re.escape(said)
     found = found.replace(r"1\ appends", r"1\ appends?")
     return found.replace(r"1\ were\ on", r"1\ (?:was|were)\ on")

@@ -19,22 +19,23 @@ WRONG = (NOT_WHOLE, WRONG_CHECKSUM, NO_COMMIT_BYTE, TOO_MUCH)
 
 
 class Damaged(Exception):
-    """No crash leaves these bytes: the number of the append where that shows, what is wrong with
-    it, and the place where it begins."""
+    """No crash leaves these bytes. It has the number of the append, the fault, and the place at
+    which the append begins."""
 
 
 def digits(data: bytes) -> bytes:
-    """The first 8 hex digits of SHA-256."""
+    """Returns the first 8 hex digits of SHA-256."""
     return hashlib.sha256(data).hexdigest()[:8].encode()
 
 
 def seed(run: str, name: str) -> bytes:
-    """The checksum that stands before the first append of this file of a run."""
+    """Returns the checksum that stands before the first append of this file of a run."""
     return digits(f"{run} {name}".encode())
 
 
 def checksums(run: str, name: str, records: list) -> list:
-    """The checksums of a file with these records, from the one before the first append on."""
+    """Returns the checksums of a file with these records, from the one before the first append
+    on."""
     found = [seed(run, name)]
     for record in records:
         found.append(digits(found[-1] + record))
@@ -42,7 +43,7 @@ def checksums(run: str, name: str, records: list) -> list:
 
 
 def appends(run: str, name: str, records: list) -> list:
-    """The bytes of each append, from its commit byte to its line feed."""
+    """Returns the bytes of each append, from its commit byte to its line feed."""
     checksum, found = seed(run, name), []
     for record in records:
         checksum = digits(checksum + record)
@@ -51,12 +52,12 @@ def appends(run: str, name: str, records: list) -> list:
 
 
 def journal(run: str, name: str, records: list) -> bytes:
-    """The bytes of a file with these records."""
+    """Returns the bytes of a file with these records."""
     return b"".join(appends(run, name, records)) + b"-"
 
 
 def records_of(run: str, name: str, data: bytes) -> list:
-    """The records of the appends in these bytes; raises Damaged if no crash leaves them."""
+    """Returns the records of the appends in these bytes; raises Damaged if no crash leaves them."""
     checksum, records, place = seed(run, name), [], 0
     while data[place:place + 1] == b"+":
         end = data.find(b"\n", place)
@@ -74,13 +75,13 @@ def records_of(run: str, name: str, data: bytes) -> list:
 
 
 def parts(records: bytes) -> list:
-    """The records of an append: one, or two."""
+    """Returns the records of an append: one, or two."""
     found = records.split(b"; ")
     return found if len(found) <= 2 else [records]
 
 
 def wrong_behind(rest: bytes) -> Optional[str]:
-    """What is wrong with the bytes behind the last append; None if a crash may leave them."""
+    """Returns the fault of the bytes after the last append; None if a crash may leave them."""
     if len(rest) < 2:
         return None
     if rest[:1] != b"-":
@@ -92,20 +93,21 @@ def wrong_behind(rest: bytes) -> Optional[str]:
 
 
 def old_journal(records: list) -> bytes:
-    """The bytes of a file with these records in a folder of amo 0.1.0, which has no checksums, and
-    no times of doubts and of what was untouched."""
+    """Returns the bytes of a file with these records in a folder of amo 0.1.0, which has no
+    checksums, and no times of doubts and of what was untouched."""
     single = (part for it in records for part in parts(it))
     return b"".join(b"+%s\n" % old_record(it) for it in single) + b"-"
 
 
 def old_record(record: bytes) -> bytes:
-    """The record that amo 0.1.0 would have put in place of this one."""
+    """Returns the record that amo 0.1.0 would have put in place of this one."""
     has_time = record.startswith((b"doubt ", b"untouched "))
     return record.rpartition(b" ")[0] if has_time else record
 
 
 def old_records_of(data: bytes) -> list:
-    """The records in these bytes of a file of amo 0.1.0: what isn't whole counts for nothing."""
+    """Returns the records in these bytes of a file of amo 0.1.0: what isn't whole counts for
+    nothing."""
     records = []
     while data[:1] == b"+" and b"\n" in data:
         record, _, data = data[1:].partition(b"\n")

@@ -18,7 +18,7 @@ TOO_LONG = f"the proved judge of logs whose events have more than {MOST} bytes"
 
 
 class Judged(NamedTuple):
-    """What came of a log: how many events it has, and what is wrong with it."""
+    """The result for a log: how many events it has, and its fault."""
 
     events: List[str]
     wrong: Optional[str]
@@ -47,7 +47,7 @@ def is_run(events: List[str]) -> bool:
 
 @functools.lru_cache(maxsize=None)
 def has_judge() -> bool:
-    """Returns whether the proved judge is there: it takes a run, and refuses what is none."""
+    """Returns whether the proved judge is there: it takes a run, and refuses another text."""
     return os.access(SHOW, os.X_OK) and is_run(["begins 1"]) and not is_run(["begins 1"] * 2)
 
 
@@ -65,8 +65,8 @@ def judged(path: str, jobs: bytes, by_judge: bool = True) -> Judged:
 
 
 class Tally(NamedTuple):
-    """What came of some logs: how many events and logs were judged, how many logs were left out,
-    and what is wrong."""
+    """The result for some logs: how many events and logs were judged, how many logs were left out,
+    and the fault."""
 
     events: int
     logs: int

@@ -22,13 +22,13 @@ MISTAKES = [
 
 
 def wrongs_of(bench: Bench) -> List[str]:
-    """What is wrong with the logs of a bench."""
+    """Returns the faults of the logs of a bench."""
     found = [judged.judge(it, judged.has_judge()) for it in bench.made]
     return [it.wrong for it in found if it.wrong]
 
 
 def wrongs_by(bench: Bench, mistake: Optional[str]) -> List[str]:
-    """What is wrong with the log of a run by the stand-in, which makes this mistake."""
+    """Returns the faults of the log of a run by the stand-in, which makes this mistake."""
     again = Bench(STAND_IN, bench.room, False, bench.seed, mistake)
     with contextlib.suppress(Wrong):  # the other checks may show it as well
         live(Runner(again.scene(4, 2), 1))
@@ -71,7 +71,7 @@ def try_early_answer(bench: Bench) -> str:
 
 
 def sound_log(bench: Bench) -> tuple:
-    """The lines of the log of a run with two workers, and its jobs."""
+    """Returns the lines of the log of a run with two workers, and its jobs."""
     scene = bench.scene(3, 2)
     finish(scene, (1, 2))
     return read(scene.calls).split(b"\n"), read(f"{scene.run}/jobs")
@@ -88,27 +88,27 @@ def is_refused(lines: List[bytes], jobs: bytes) -> bool:
 
 
 def actor_of(line: bytes) -> bytes:
-    """Whose line it is: a process's, or that of a runner and its worker."""
+    """Returns the actor of a line: a process's, or that of a runner and its worker."""
     words = line.split(b" ")
     return words[1] if words[0].decode() in SIDES else b""
 
 
 def swaps(lines: List[bytes]) -> Iterator[List[bytes]]:
-    """The log with two lines of one process exchanged, which stand next to each other."""
+    """Yields the log with two lines of one process exchanged, which stand next to each other."""
     for k, (first, second) in enumerate(zip(lines, lines[1:])):
         if actor_of(first) and actor_of(first) == actor_of(second):
             yield [*lines[:k], second, first, *lines[k + 2:]]
 
 
 def said_late(lines: List[bytes]) -> Iterator[List[bytes]]:
-    """The log with a line performed before the worker has said so."""
+    """Yields the log with a line performed before the worker has handed it over."""
     for k, (first, second) in enumerate(zip(lines, lines[1:])):
         if b" say perform " in first and second.startswith(b"performed "):
             yield [*lines[:k], second, first, *lines[k + 2:]]
 
 
 def without_one(lines: List[bytes]) -> Iterator[List[bytes]]:
-    """The log without one line of a process, which isn't its last one."""
+    """Yields the log without one line of a process, which isn't its last one."""
     for k, line in enumerate(lines):
         if actor_of(line) and actor_of(line) in map(actor_of, lines[k + 1:]):
             yield [*lines[:k], *lines[k + 1:]]

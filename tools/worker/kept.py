@@ -1,5 +1,6 @@
-"""What was acknowledged stays: processes that are stopped, slow or killed at the very calls by which an answer becomes one that a
-worker goes on after, and then the power is cut; and storms, runs in which all that is drawn at random."""
+"""Acknowledged records stay. Processes are stopped, slow or killed at the very calls by which an
+answer becomes one that a worker goes on after, and then the power is cut. In storms, all that is
+drawn at random."""
 
 import errno
 import random
@@ -19,7 +20,8 @@ NOTED = 6
 
 
 def note_points(bench):
-    """The calls of a first life from what it says first to its second answer, beside another worker and alone."""
+    """Yields the calls of a first life from its first line to its second answer, with another
+    worker and alone."""
     for beside in (False, True):
         calls = life_points(bench, beside)
         begun = next(k for k, it in enumerate(calls) if it[2] == "say")
@@ -28,8 +30,9 @@ def note_points(bench):
 
 
 def stop_one(bench, beside, number, fault, how):
-    """A worker is stopped, slow or killed at this call. A person asks, another worker begins, power is cut; of the next process
-    nobody hears that it has noted an answer. What the first one went on after is there."""
+    """Has a worker stopped, slow or killed at this call. A person asks, another worker begins,
+    power is cut. Nobody learns that the next process has noted an answer. The records that the
+    first one went on after are there."""
     scene = bench.scene(4, 2 if beside else 1, makes=False)
     power = Power(scene, bench.draws, fails="none")
     runners = [Waiting(scene, 1)] if beside else []
@@ -48,15 +51,17 @@ def stop_one(bench, beside, number, fault, how):
 
 
 def try_stopped_and_cut(bench):
-    """stopped, slow or killed at each call from the first answer to the second, then the power cut: what it went on after stays"""
+    """stopped, slow or killed at each call from the first answer to the second, then the power cut:
+    what it went on after stays"""
     faults, hows = ("stop_before", "stop_after", "slow", "kill_after"), ("none", "all", "drawn")
     rows = [(bench, *it, fault, how) for it in note_points(bench) for fault in faults for how in hows]
     return f"{each(bench.sample(rows, 12), stop_one)} cuts"
 
 
 def forget_one(bench, first, second):
-    """A process is killed at a call behind an answer that it went on after, its runner dies, and the next, whose runner knows of
-    nothing, is killed at a call too: no answer is asked for again."""
+    """Kills a process at a call after an answer that it went on after. Its runner dies, and the
+    next process, whose runner knows of nothing, is killed at a call too. No answer may be asked for
+    again."""
     scene = bench.scene(5, 1, makes=False)
     power = Power(scene, bench.draws, fails="none")
     for fault in (first, second):
@@ -70,7 +75,8 @@ def forget_one(bench, first, second):
 
 
 def try_forgotten_and_cut(bench):
-    """killed, or a sync failed, behind an answer; then with a runner that knows nothing, and the power cut: no answer is lost"""
+    """killed, or a sync failed, after an answer; then with a runner that knows nothing, and the
+    power cut: no answer is lost"""
     numbers = [number for beside, number in note_points(bench) if not beside]
     rows = [(bench, f"{number}:{errno.EIO if kind else 'kill_after'}", f"{second}:{errno.EIO if kind > 1 else 'kill_after'}")
             for number in numbers for second in range(20, 90, 3) for kind in range(3)]
@@ -78,9 +84,10 @@ def try_forgotten_and_cut(bench):
 
 
 def jobs_one(bench, number, how):
-    """The jobs' file has a line that nobody synced; its sync fails at this call, and gives up that line for good, which is read
-    all the same. Where power is cut then, the file may lack what the run knows: it is refused by that line until it has it again.
-    With no number: the calls of such a life."""
+    """Lets the sync of a line in the jobs' file fail at this call. The kernel gives up that line
+    for good, and it is read all the same. If power is cut then, the file may lack a line that the
+    run knows. It must be refused by that line until it has it again. Without a number: returns the
+    calls of such a life."""
     scene = bench.scene(4, 1, makes=False)
     power = Power(scene, bench.draws, fails="none")
     power.grow(b"job 5\n")
@@ -104,13 +111,15 @@ def jobs_one(bench, number, how):
 
 
 def try_failed_sync_of_jobs_and_cut(bench):
-    """a sync of the jobs' file fails, and the power is cut: its line is refused by number until it is there, none is done twice"""
+    """a sync of the jobs' file fails, and the power is cut: its line is refused by number until it
+    is there, none is done twice"""
     numbers = jobs_one(bench, None, None)
     return f"{each(((bench, it, how) for it in numbers for how in ('none', 'all', 'drawn')), jobs_one)} syncs"
 
 
 class Moody(Runner):
-    """A runner that now and then doesn't begin a command and says so, and that may die before or after one."""
+    """A runner that now and then doesn't begin a command and replies so, and that may die before or
+    after one."""
 
     def __init__(self, scene, worker, draws):
         super().__init__(scene, worker)
@@ -139,7 +148,8 @@ class Moody(Runner):
 
 
 def storm(bench, seed):
-    """A run with kills, stops, failed and slow calls, deaths of runners, a jobs' file that grows, persons, and cuts of power."""
+    """Returns a run with kills, stops, failed and slow calls, deaths of runners, a jobs' file that
+    grows, persons, and cuts of power."""
     draws = random.Random(seed)
     scene = bench.scene(draws.randint(1, 4), draws.choice([1, 1, 2, 2, 3]), makes=False)
     power, count = Power(scene, draws), 0
@@ -158,7 +168,8 @@ def storm(bench, seed):
 
 
 def work_on(scene, runners, draws):
-    """Those whose workers are dead begin them again, and all go on until some lines were said; some are stopped meanwhile."""
+    """Has dead workers begun again, and all go on until some lines were handed over. Some are
+    stopped meanwhile."""
     for it in runners:
         if not it.process and not it.dies:
             it.start(drawn_faults(draws))
@@ -204,7 +215,8 @@ def between(scene, power, runners, draws):
 
 
 def try_storms(bench):
-    """runs drawn at random, with cuts of power: no line twice, nothing acknowledged gone, no doubt performed later"""
+    """runs drawn at random, with cuts of power: no line twice, nothing acknowledged gone, no doubt
+    performed later"""
     return f"{each(((bench, f'{bench.seed}.{k}') for k in range(10000 if bench.is_long else 100)), storm)} storms"
 
 

@@ -13,7 +13,8 @@ INTERRUPTED = ("open", "read", "write", "cut", "sync", "lock", "say", "hear")
 
 
 def changes(calls):
-    """The calls after which something stands otherwise than before; of several by which one answer is heard, the last."""
+    """Returns the calls after which something has changed. Of several calls that read one answer it
+    has the last."""
     nexts = [it[2] for it in calls[1:]] + [""]
     return [it for it, after in zip(calls, nexts) if is_change(it) and not it[2] == after == "hear"]
 
@@ -23,12 +24,12 @@ def is_change(call):
 
 
 def is_over(call):
-    """Whether this call says that the worker's part of a round is over."""
+    """Returns whether this call says that the worker's part of a round is over."""
     return call[2] == "say" and int(call[6]) == len(b"over\n")
 
 
 def first_life(bench, lines=4, workers=2):
-    """The calls of a first life that nothing befalls."""
+    """Returns the calls of a first life that nothing befalls."""
     scene = bench.scene(lines, workers)
     scene.logs, runner = True, Runner(scene, 1)
     status = live(runner)
@@ -38,20 +39,23 @@ def first_life(bench, lines=4, workers=2):
 
 
 def points(bench):
-    """The numbers of the calls at which a kill makes a difference; in the long form, of all."""
+    """Returns the numbers of the calls at which a kill makes a difference; in the long form, of
+    all."""
     calls = first_life(bench)
     return [int(it[1]) for it in (calls if bench.is_long else changes(calls))]
 
 
 def want_all_told(scene, most=1):
-    """Each line is performed, but for so many that are in doubt: their intent was put, and nobody heard of it."""
+    """Wants each line to be performed, but for so many in doubt: their intent was put, and nobody
+    learned of it."""
     performed, doubts = {it[2] for it in scene.effects()}, {it[2] for it in scene.doubts()}
     lines = set(range(1, len(scene.look().lines) + 1))
     want(performed | doubts == lines and len(doubts - performed) <= most, f"performed are {performed}, in doubt {doubts}")
 
 
 def kill_one(bench, number, when, drops):
-    """A worker is killed at this call; its runner lives on, and tells the next one what it saw."""
+    """Kills a worker at this call. Its runner lives on, and gives the next one the ends that it
+    saw."""
     scene = bench.scene(4, 2)
     runner = Runner(scene, 1)
     runner.drops = drops
@@ -64,7 +68,8 @@ def kill_one(bench, number, when, drops):
 
 
 def try_killed(bench):
-    """killed at each call: the next life goes on, and each line is performed once, or the one in hand is in doubt"""
+    """killed at each call: the next life goes on, and each line is performed once, or the one in
+    hand is in doubt"""
     numbers = points(bench)
     count = each([(bench, 1, "before", False), *((bench, it, "after", False) for it in numbers)], kill_one)
     if bench.is_long:
@@ -73,7 +78,7 @@ def try_killed(bench):
 
 
 def try_killed_and_dropped(bench):
-    """killed right after it spoke: the runner drops what the dead one said"""
+    """killed right after it printed a line: the runner drops the line of the dead one"""
     numbers = [int(it[1]) for it in changes(first_life(bench)) if it[2] in ("say", "hear")]
     return f"{each(((bench, it, 'after', True) for it in numbers), kill_one)} kills"
 
@@ -86,8 +91,8 @@ class Waiting(Runner):
 
 
 def kill_beside(bench, number):
-    """Worker 2 is killed at this call, while worker 1 keeps the round; the next one goes on in it by the words alone. With no
-    number: the calls of worker 2 that make a difference."""
+    """Worker 2 is killed at this call, while worker 1 keeps the round; the next one goes on in it
+    by the words alone. With no number: the calls of worker 2 that make a difference."""
     scene = bench.scene(6, 2)
     first, second = Waiting(scene, 1), Runner(scene, 2)
     serve([first.start()], until=lambda: first.lines)
@@ -106,12 +111,14 @@ def kill_beside(bench, number):
 
 
 def try_killed_beside(bench):
-    """killed at each call beside a worker that keeps the round: the next one goes on by the words, and performs no line again"""
+    """killed at each call, while another worker keeps the round: the next one goes on by the words,
+    and performs no line again"""
     return f"{each(((bench, it) for it in bench.sample(kill_beside(bench, None), 40)), kill_beside)} kills"
 
 
 def kill_both(bench, number, second):
-    """Worker and runner are killed, and the next worker too; a person finds out of each doubt, and then all is performed."""
+    """Worker and runner are killed, and the next worker too; a person finds out of each doubt, and
+    then all is performed."""
     scene = bench.scene(4, 2)
     runner = Runner(scene, 1)
     runner.drops = bench.draws.random() < 0.5
@@ -132,7 +139,8 @@ def kill_both(bench, number, second):
 
 
 def try_killed_with_its_runner(bench):
-    """killed at each call, and its runner too: what is in doubt is told, and once a person has answered each line is done once"""
+    """killed at each call, and its runner too: each doubt is listed, and once a person has answered
+    each line is done once"""
     numbers = points(bench)
     pairs = [(bench, it, bench.draws.choice(numbers) if bench.draws.random() < 0.5 else 0) for it in bench.sample(numbers, 40)]
     count = each(pairs, kill_both)
@@ -149,13 +157,14 @@ def names_file(said, file, scene):
 
 
 def status_of(call, file):
-    """With which status it ends where this call is refused: 74 where a file can't be read, the jobs' file synced, or a file opened
-    that has to be there; else 73."""
+    """Returns the status with which it ends if this call is refused. It is 74 if a file can't be
+    read, the jobs' file can't be synced, or an existing file can't be opened; else 73."""
     return {READ} if call == "read" or (call, file) == ("sync", "JOBS") else {READ, WRITE} if call in ("open", "look") else {WRITE}
 
 
 def refuse_one(bench, number, call, file, fault):
-    """One call fails. An interrupted or a short one is made again, or it ends as one that failed. Nothing is said after it."""
+    """Has one call fail. An interrupted or a short one is made again, or it ends as one that
+    failed. It prints nothing after that."""
     scene = bench.scene(4, 2)
     scene.logs, runner = True, Runner(scene, 1)
     status = live(runner, f"{number}:{fault}")
@@ -174,7 +183,8 @@ def refuse_one(bench, number, call, file, fault):
 
 
 def refusals(bench):
-    """Each call with each fault; in the short form, of calls that are alike the first and the last, and all on folders."""
+    """Yields each call with each fault; in the short form, of calls that are alike the first and
+    the last, and all on folders."""
     calls, alike = first_life(bench), {}
     for it in calls:
         if int(it[7]) >= 0 or it[2] == "open":
@@ -191,7 +201,8 @@ def refusals(bench):
 
 
 def try_refused(bench):
-    """each write, sync, rename, lock, open and read refused: it ends, names the file, and says nothing more; none is lost"""
+    """each write, sync, rename, lock, open and read refused: it ends, names the file, and says
+    nothing more; none is lost"""
     return f"{each(refusals(bench), refuse_one)} refusals"
 
 
@@ -226,7 +237,8 @@ def refused_memory(scene, number):
 
 
 def live_without(bench, number):
-    """A first life without one allocation: it ends by saying so, or it goes on; the next one goes on. Whether it came so far."""
+    """Returns a first life without one allocation: it ends by saying so, or it goes on; the next
+    one goes on. Whether it came so far."""
     scene = bench.scene(4, 2)
     runner, was_refused = Runner(scene, 1), refused_memory(scene, number)
     status = live(runner)
@@ -243,7 +255,8 @@ def live_without(bench, number):
 
 
 def call_without(bench, number, words):
-    """A command without one allocation: it says so and shows nothing, or all. Whether it came so far."""
+    """Runs a command without one allocation. It must report that and print nothing, or print all.
+    Returns whether it came so far."""
     scene = prepared_call(bench)
     was_refused = refused_memory(scene, number)
     status, out, err = scene.call(words[0], scene.run, *words[1:])
@@ -258,7 +271,7 @@ def call_without(bench, number, words):
 
 
 def prepared_call(bench):
-    """A run with a doubt, of which a command tells."""
+    """Returns a run with a doubt, which a command lists."""
     scene = bench.scene(3, 1)
     runner = Runner(scene, 1)
     runner.after = lambda serial: "doubt"
@@ -269,7 +282,8 @@ def prepared_call(bench):
 
 
 def reached(bench, try_one, *more):
-    """How many allocations there are, at least half of them known: the first number doubled that isn't reached."""
+    """Returns how many allocations there are, at least half of them known: the first number doubled
+    that isn't reached."""
     number = 1
     while try_one(bench, number, *more):
         number *= 2
@@ -277,7 +291,8 @@ def reached(bench, try_one, *more):
 
 
 def try_no_memory(bench):
-    """each allocation of a life, and of each command, refused: it ends by saying so, shows nothing, and nothing is lost"""
+    """each allocation of a life, and of each command, refused: it ends by saying so, shows nothing,
+    and nothing is lost"""
     if not os.path.exists(f"{bench.room}/memory.so") or bench.is_slow():
         bench.skipped.append("memory is refused to a program over glibc alone")
         return None
@@ -291,7 +306,8 @@ def try_no_memory(bench):
 
 
 def answer_killed(bench, number):
-    """Who answers is killed at this call; the answer is there then, or is taken when it is given again."""
+    """Kills a person's command at this call. The answer is there then, or is taken when it is given
+    again."""
     scene, fault = answerable(bench), f"{number}:kill_after"
     words = ["answer", scene.run, "1.1", "1", "job 1", "not-done", "--now"]
     want(scene.call(*words, faults=fault)[0] == KILLED, "it isn't killed")
@@ -303,8 +319,8 @@ def answer_killed(bench, number):
 
 
 def answerable(bench):
-    """A run whose first intent is in doubt, which nobody has recorded: its worker was killed before
-    it spoke."""
+    """Returns a run whose first intent is in doubt, which nobody has recorded: its worker was
+    killed before it spoke."""
     scene = bench.scene(3, 1)
     scene.logs, runner = True, Runner(scene, 1)
     live(runner)
@@ -328,8 +344,8 @@ def try_killed_answers(bench):
 
 
 def lister_killed(bench, number):
-    """Who asks for doubts, and settles the journal of one and records it for that, is killed at this call; the next one is
-    told the same."""
+    """Kills a command at this call that lists doubts, and recovers a journal and records in it for
+    that. The next one must print the same."""
     scene = answerable(bench)
     want(scene.call("doubts", scene.run, faults=f"{number}:kill_after")[0] == KILLED, "it isn't killed")
     want(scene.doubts() == [(1, 1, 1)], "it isn't told as a doubt any more")
@@ -338,7 +354,8 @@ def lister_killed(bench, number):
 
 
 def try_killed_listers(bench):
-    """who asks for doubts, killed at each call: the next one is told the same, and workers go on"""
+    """a command that lists doubts, killed at each call: the next one prints the same, and workers
+    go on"""
     scene = answerable(bench)
     scene.logs = True
     scene.doubts()
@@ -346,7 +363,7 @@ def try_killed_listers(bench):
 
 
 def state_of(runner):
-    """The state of its process as the kernel tells it: T where it is stopped, Z where it has ended."""
+    """Returns the state of its process by the kernel: T if it is stopped, Z if it has ended."""
     if not runner.process:
         return "Z"
     with open(f"/proc/{runner.process.pid}/stat", encoding="latin-1") as file:
@@ -354,7 +371,8 @@ def state_of(runner):
 
 
 def stop_one(bench, number):
-    """A process of number 1 is stopped at a call, while the one at work ends and another begins: two may not get on."""
+    """A process of number 1 is stopped at a call, while the one at work ends and another begins:
+    two may not get on."""
     scene = bench.scene(4, 1)
     first, stopped, third = Runner(scene, 1), Runner(scene, 1, is_stray=True), Runner(scene, 1, is_stray=True)
     try:
@@ -383,15 +401,16 @@ def stop_one(bench, number):
 
 
 def try_two_of_one_number(bench):
-    """a process stopped at each of its first calls, while others of its number end and begin: one alone gets on"""
+    """a process stopped at each of its first calls, while others of its number end and begin: one
+    alone gets on"""
     calls = first_life(bench)
     until = next(k for k, it in enumerate(calls) if it[2] == "lock" and it[3] == "lock.round")
     return f"{each(((bench, int(it[1])) for it in calls[:until]), stop_one)} stops"
 
 
 def swap_one(bench, name, which):
-    """A process is stopped before it asks for a lock, for the first time or later; the file is changed for another of the same name,
-    which others lock."""
+    """A process is stopped before it asks for a lock, for the first time or later; the file is
+    changed for another of the same name, which others lock."""
     calls = first_life(bench)
     number = [int(it[1]) for it in calls if it[2:4] == ["lock", name]][which]
     scene = bench.scene(4, 2)

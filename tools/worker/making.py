@@ -25,7 +25,7 @@ MINE = {**dict.fromkeys(("notes", "list", "list.run-is", "journal.x"), b"mine\n"
 
 
 def prepare(bench, kind: str) -> Scene:
-    """A run whose folder isn't made yet."""
+    """Returns a run whose folder isn't made yet."""
     scene = bench.scene(2, 1, makes=False)
     if kind in ("users", "cut"):
         os.mkdir(scene.run, 0o700)
@@ -64,8 +64,8 @@ def want_whole(scene, kind: str) -> None:
 
 
 def first_door(bench, kind: str) -> list:
-    """The calls of a door that nothing befalls, after which the folder is whole and nothing is
-    left."""
+    """Returns the calls of a door that nothing befalls, after which the folder is whole and nothing
+    is left."""
     scene = prepare(bench, kind)
     scene.logs = True
     status, out, err = scene.call(*door_words(scene, kind))
@@ -101,8 +101,8 @@ def made_one(bench, kind: str) -> None:
 
 
 def try_made(bench):
-    """the door makes a folder beside, in a folder of the user's, in one that was cut off, or where
-    it is told; nothing is left"""
+    """the door makes a folder next to the run's, in a folder of the user's, in one that was cut
+    off, or at a named place; nothing is left"""
     return f"{each(((bench, kind) for kind in BEFORE), made_one)} folders"
 
 
@@ -136,8 +136,8 @@ FEW = 4  # how many calls of a door the short form tries, besides its last ones
 
 
 def points(bench, kind: str, count: int, chosen=changes) -> list:
-    """The numbers of a door's calls, some of them in the short form, among these its last one and
-    that by which the run gets its id, with the calls beside it."""
+    """Returns the numbers of a door's calls, some of them in the short form, with the calls
+    themselves. Its last one and that by which the run gets its id are always among them."""
     calls = chosen(first_door(bench, kind))
     numbers, named = ([int(it[1]) for it in calls],
                       next(k for k, it in enumerate(calls) if names_it(it)))
@@ -146,7 +146,7 @@ def points(bench, kind: str, count: int, chosen=changes) -> list:
 
 
 def names_it(call: list) -> bool:
-    """Whether the run has its id from this call on."""
+    """Returns whether the run has its id from this call on."""
     return call[2] in ("link", "rename") and call[8] in ("id", ".")
 
 
@@ -162,8 +162,8 @@ def try_door_killed(bench):
 
 
 def refuse_one(bench, kind: str, number: int, call: str, file: str, fault) -> None:
-    """A call of the door fails: the status says so, one line names the folder, and the next door
-    goes on."""
+    """Has a call of the door fail. The status shows it, one line names the folder, and the next
+    door goes on."""
     scene = prepare(bench, kind)
     status, out, err = scene.call(*door_words(scene, kind), faults=f"{number}:{fault}")
     may_go_on = fault in ("short", errno.EINTR) or call == "remove"
@@ -175,8 +175,8 @@ def refuse_one(bench, kind: str, number: int, call: str, file: str, fault) -> No
 
 
 def refusals(bench, kind: str):
-    """Each call of a door with each fault; in the short form, of those that are alike the first and
-    the last."""
+    """Yields each call of a door with each fault; in the short form, of those that are alike the
+    first and the last."""
     alike = {}
     for it in first_door(bench, kind):
         name = it[3].rpartition("/")[2].rstrip("0123456789")
@@ -299,7 +299,7 @@ def try_leftovers(bench):
 
 
 def commands(scene) -> list:
-    """The words of each command, in a run with a doubt."""
+    """Returns the words of each command, in a run with a doubt."""
     more = [*scene.givens(), scene.jobs]
     return [["door", *more], ["work", "1", *more], ["status"], ["status", "--json"], ["doubts"],
             ["answer", "1.1", "1", "job 1", "done"], ["again"]]
@@ -317,8 +317,8 @@ def refuse_all(scene, name: str, what: str, words: list) -> None:
 
 
 def miss_one(bench, name: str, is_removed: bool, few_commands: bool) -> None:
-    """A file that the door made is removed or emptied, in the first round: refused by name, also
-    beside a worker that lives."""
+    """Removes or empties a file that the door made, in the first round. It must be refused by name,
+    also while a worker lives."""
     scene = prepared(bench, ["doubt", "done 0"], lines=4)
     path = f"{scene.run}/{name}"
     data = read(path)
@@ -372,8 +372,8 @@ def try_missing_beside(bench):
 
 
 def old_run(bench) -> Scene:
-    """A folder of amo 0.1.0, with all kinds of lines, one of them pending behind a journal that
-    nobody has settled."""
+    """Returns a folder of amo 0.1.0, with all kinds of lines, one of them pending in a journal that
+    nobody has recovered."""
     scene = prepared(bench, ["done 0", "untouched 75", "doubt", "unbegun", "dies"], lines=7)
     put(f"{scene.run}/command.1.5", b"")
     folder.make_old(scene.run)
@@ -396,8 +396,8 @@ def read_old(scene, counts: str, doubts: list) -> None:
 
 
 def try_old_run(bench):
-    """a folder of amo 0.1.0: status and doubts read it and write nothing, also beside its locks;
-    all else refuses it"""
+    """a folder of amo 0.1.0: status and doubts read it and write nothing, also while its locks are
+    held; all else refuses it"""
     scene = old_run(bench)
     read_old(scene, "lines 7 done 1 failed 0 doubt 2 running 0 untouched 1 open 3",
              [(1, 3), (1, 5)])
@@ -427,8 +427,8 @@ def try_old_run(bench):
 
 
 def try_id(bench):
-    """--id: the own one is taken, another is refused by each command; with it no folder is made; an
-    id that is none is refused"""
+    """--id: its own is taken, another is refused by each command; with it no folder is made; an
+    invalid id is refused"""
     scene = prepared(bench, ["doubt", "done 0"], lines=2)
     for command, *more in commands(scene):
         more = ([*more[:-1], "--id", ANOTHER, more[-1]] if command in ("door", "work")
@@ -471,7 +471,7 @@ def try_forgotten(bench):
 
 
 def into_one(bench, kind: str) -> None:
-    """--into where an id is, is refused, and changes nothing."""
+    """Wants --into to be refused at a folder with an id, and to change nothing."""
     scene = prepare(bench, kind)
     scene.door()
     before = folder.listing(scene.run)

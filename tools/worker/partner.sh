@@ -4,7 +4,8 @@
 worker=$1 run=$2 p=$3 m=$4 jobs=$5 room=$(mktemp -d) status=75 seen=; shift 5; trap '' PIPE
 exec 9<>"$run/runner.$p" && flock -w 5 9 && mkfifo "$room/to" "$room/from" || exit 1
 while [ $status = 75 ] || [ $status -gt 128 ]; do
-  # (the worker, which waits here for both pipes, gives up the lock first, or would keep it where this is killed meanwhile)
+  # (the worker, which waits here for both pipes, gives up the lock first; otherwise it would keep
+  # it if this is killed meanwhile)
   (exec 9>&-; exec "$worker" work "$run" "$p" --workers "$m" "$jobs" <"$room/to" >"$room/from") & exec 7>"$room/to" 8<"$room/from"
   while IFS= read -r said <&8; do
     if [ "$said" = over ]; then sleep "0.$(($$ % 5 + 1))"; echo go >&7; continue; fi

@@ -1,4 +1,5 @@
-"""What persons are told and may answer; commands that outlive who began them; words and refusals at the door."""
+"""The messages to persons and their answers; commands that outlive the process that began them;
+words and refusals at the door."""
 
 import errno
 import json
@@ -18,7 +19,8 @@ from worker.scene import (ANSWER, DOOR, KILLED, LATER, LEFT, OVER, REFUSED, WORD
 
 
 class Says(Runner):
-    """A runner that answers each perform with the next of these replies; `done` is said of what was performed."""
+    """A runner that answers each perform with the next of these replies; it replies `done` for a
+    performed line."""
 
     def __init__(self, scene, worker, replies, **more):
         super().__init__(scene, worker, **more)
@@ -36,7 +38,7 @@ class Says(Runner):
 
 
 def prepared(bench, replies, lines=6):
-    """A run whose first lines were answered so; the last reply tells to leave."""
+    """Returns a run whose first lines were answered so. The last reply asks the worker to leave."""
     scene = bench.scene(lines, 1)
     runner = Says(scene, 1, replies)
     live(runner)
@@ -46,7 +48,7 @@ def prepared(bench, replies, lines=6):
 
 
 def counts_of(scene, *words):
-    """The counts that status tells, as text and as JSON, which have to say the same."""
+    """Returns the counts that status prints, as text and as JSON, which must be the same."""
     status, out, err = scene.call("status", scene.run, *words)
     want(status == OVER, f"status: {status}, {err}")
     first = out.split("\n")[0].split(" ")
@@ -56,7 +58,7 @@ def counts_of(scene, *words):
 
 
 def agree(scene):
-    """What status, its JSON, its lists and doubts say is what the auditor reads."""
+    """Wants status, its JSON, its lists and doubts to print what the auditor reads."""
     found = scene.look()
     final = found.final()
     counts, out = counts_of(scene)
@@ -83,7 +85,8 @@ def agree(scene):
 
 
 def try_counts(bench):
-    """status, its lists and its JSON, and doubts: as the auditor reads journals, locks and answers"""
+    """status, its lists and its JSON, and doubts: as the auditor reads journals, locks and
+    answers"""
     scene = prepared(bench, ["done 0", "done 3", "doubt", "untouched 75", "unbegun", "dies"])
     kinds = agree(scene)
     want([kinds[k] for k in range(1, 7)] == ["done", "failed", "doubt", "untouched", "open", "doubt"], f"{kinds}")
@@ -108,7 +111,8 @@ def answered(scene, name, line, text, verdict, status, taken, *more):
 
 
 def try_answers(bench):
-    """a person's answers: taken for a noted doubt, what failed and what was untouched, of the right line, once; others refused"""
+    """a person's answers: taken for a noted doubt, what failed and what was untouched, of the right
+    line, once; others refused"""
     scene = prepared(bench, ["done 0", "done 3", "doubt", "untouched 75", "doubt", "unbegun"])
     agree(scene)
     for name, line, text, verdict, status, taken in [
@@ -125,7 +129,8 @@ def try_answers(bench):
 
 
 def try_answers_open(bench):
-    """`not-done` opens a line again, once, and its intent can't be answered any more; `again` opens what was untouched, once"""
+    """`not-done` opens a line again, once, and its intent can't be answered any more; `again` opens
+    what was untouched, once"""
     scene = prepared(bench, ["untouched 75", "untouched 3", "done 5"], lines=3)
     scene.again()
     scene.again()
@@ -167,7 +172,8 @@ def try_answers_from_file(bench):
 
 
 def try_many_answers(bench):
-    """files of 0 to 11 answers, each of which is taken, and as many lines that are opened again at once"""
+    """files of 0 to 11 answers, each of which is taken, and as many lines that are opened again at
+    once"""
     scene = prepared(bench, ["doubt"] * 66 + ["untouched 75"] * 12, lines=78)
     rows, path = scene.call("status", scene.run, "--lines", "doubt")[1].splitlines(), f"{scene.room}/verdicts"
     for count in range(12):
@@ -189,7 +195,8 @@ UNKNOWN = "no record says when its attempt ended; wait as long as the receiver m
 
 
 def ended_at(scene, times):
-    """Rewrites journal.1, of which the round counts nothing: the attempts with these serial numbers ended at these times."""
+    """Rewrites journal.1, of which the round counts nothing: the attempts with these serial numbers
+    ended at these times."""
 
     def timed(found):
         time_of = times.get(int(next(it for it in found.groups()[1:] if it)))
@@ -200,8 +207,9 @@ def ended_at(scene, times):
 
 
 def try_not_done_waits(bench):
-    """`not-done` of what failed or is in doubt waits until so many seconds have passed since its end, and until somebody looks if
-    that is not known or ahead of the clock; `--now` doesn't wait"""
+    """`not-done` of what failed or is in doubt waits until so many seconds have passed since its
+    end, and until somebody looks if that is not known or ahead of the clock; `--now` doesn't
+    wait"""
     scene, now = prepared(bench, ["done 3", "doubt", "doubt", "doubt"], lines=4), int(time.time())
     scene.is_judged = False  # the person lies
     ended_at(scene, {1: now - 10**6, 2: now - 10**6, 3: now + 10**6, 4: 0})
@@ -230,7 +238,8 @@ def try_now_by_default(bench):
 
 
 def try_done_at_once(bench):
-    """`done` doesn't wait, whenever the attempt ended; nor does any answer to what was untouched, nor `again`"""
+    """`done` doesn't wait, whenever the attempt ended; nor does any answer to what was untouched,
+    nor `again`"""
     scene, now = prepared(bench, ["done 3", "doubt", "doubt", "untouched 75", "untouched 75", "dies"]), int(time.time())
     ended_at(scene, {1: now, 2: now + 10**6, 3: 0, 4: now, 5: now + 10**6})
     for serial, verdict in ((1, "done"), (2, "done"), (3, "done"), (4, "not-done"), (6, "done")):
@@ -269,7 +278,8 @@ def try_sheet_waits(bench):
 
 
 def doubts_of(scene):
-    """What `doubts` says of each attempt: when it ended and how long ago, as JSON and as a word."""
+    """Returns what `doubts` prints on each attempt: when it ended and how long ago, as JSON and as
+    a word."""
     told = {it["intent"]: (it["ended"], it["age"]) for it in json.loads(scene.call("doubts", scene.run, "--json")[1])}
     words = {it.split(" ")[1]: it.split(" ")[-1] for it in scene.call("doubts", scene.run)[1].splitlines()}
     want(list(told) == list(words), f"the doubts are {told}, {words}")
@@ -277,8 +287,8 @@ def doubts_of(scene):
 
 
 def try_ages(bench):
-    """doubts says of each attempt when it ended, and how many seconds ago; not of one whose end is not known, and no age of one
-    that is ahead of the clock"""
+    """doubts says of each attempt when it ended, and how many seconds ago; not of one whose end is
+    not known, and no age of one that is ahead of the clock"""
     scene, now = prepared(bench, ["doubt", "doubt", "doubt", "done 3"]), int(time.time())
     ended_at(scene, {1: now - 10**6, 2: now + 10**6, 3: 0})
     told, words = doubts_of(scene)
@@ -289,7 +299,7 @@ def try_ages(bench):
 
 
 def left_pending(bench):
-    """A run with one attempt that is final and that nobody has recorded."""
+    """Returns a run with one attempt that is final and that nobody has recorded."""
     scene = prepared(bench, ["done 0", "dies"], lines=3)
     want(scene.look().final() == {(1, 2)}, "no attempt is final")
     open(f"{scene.run}/command.1.2", "wb").close()
@@ -297,7 +307,8 @@ def left_pending(bench):
 
 
 def try_recorded(bench):
-    """who lists a doubt that nobody has recorded, or answers it, records it with the time; the status and `again` don't"""
+    """who lists a doubt that nobody has recorded, or answers it, records it with the time; the
+    status and `again` don't"""
     scene, words = left_pending(bench), ["1.2", "2", "job 2", "not-done"]
     for call in ("status", "again"):
         scene.call(call, scene.run)
@@ -320,7 +331,8 @@ def try_recorded(bench):
 
 
 def try_listed_though_full(bench):
-    """a doubt that the disk doesn't take is listed all the same, and it isn't known when it ended; the next one who asks records it"""
+    """a doubt that the disk doesn't take is listed all the same, and it isn't known when it ended;
+    the next one who asks records it"""
     scene = left_pending(bench)
     scene.logs = True
     scene.call("doubts", scene.run)
@@ -344,7 +356,7 @@ def try_listed_though_full(bench):
 
 
 class Lasting(Runner):
-    """A runner whose command goes on until it is told to end, also without its runner."""
+    """A runner whose command goes on until it gets a signal, also without its runner."""
 
     def perform(self, serial, line):
         self.command = serial, line, self.taken(f"command.{self.worker}.{serial}")
@@ -356,7 +368,8 @@ class Lasting(Runner):
 
 
 def try_commands_that_stay(bench):
-    """a command that outlives its runner: told as running, no doubt and not to be answered until it has ended"""
+    """a command that outlives its runner: listed as running, and neither a doubt nor to be answered
+    until it has ended"""
     scene = bench.scene(6, 1)
     runner = Lasting(scene, 1)
     serve([runner.start()], until=lambda: runner.lines)
@@ -392,7 +405,7 @@ def try_pending(bench):
 
 
 def agree_running(scene, alive):
-    """How many lines are told as running, where these workers are alive."""
+    """Returns how many lines are listed as running, while these workers are alive."""
     counts, out = counts_of(scene)
     want(out.split("\n")[1].split(" ") == ["alive", *map(str, alive)] or not alive and out.split("\n")[1].strip() == "alive",
          f"alive are {alive}: {out}")
@@ -400,7 +413,8 @@ def agree_running(scene, alive):
 
 
 def try_locks_of_a_doubt(bench):
-    """a pending intent is no doubt while anybody holds its journal, its runner's lock or its command's"""
+    """a pending intent is no doubt while anybody holds its journal, its runner's lock or its
+    command's"""
     scene = bench.scene(3, 1)
     runner = Lasting(scene, 1)
     serve([runner.start()], until=lambda: runner.lines)
@@ -419,7 +433,8 @@ def try_locks_of_a_doubt(bench):
 
 
 def try_senseless_answers(bench):
-    """answers that can't be: the status says so and the line is printed; an answer without its end is the end of input"""
+    """impossible answers: the status shows it and the line is printed; an answer without its end is
+    the end of input"""
     for said in ("done 9 0 go", "done 1 256 go", "done 1 go", "doubt 1 stay", "", "done  1 0 go", "done 01 0 go", "perhaps 1 go",
                  "running 1 0 go", None):
         status = ANSWER if said is not None else LEFT
@@ -438,7 +453,8 @@ def try_senseless_answers(bench):
 
 
 def try_ends(bench):
-    """leave and end of input: the status says so, the intent of the latter stays pending, and the words let others go on"""
+    """leave and end of input: the status shows it, the intent of the latter stays pending, and the
+    words let others go on"""
     for lines in (5, 2):
         scene = bench.scene(lines, 1)
         runner = Says(scene, 1, ["done 0", "done 0"])
@@ -488,7 +504,8 @@ def refused_jobs(bench, data, line):
 
 
 def try_jobs(bench):
-    """the jobs' file: an empty line, NUL, CR, what is no UTF-8, a line too long, equal lines, a last line without its end"""
+    """the jobs' file: an empty line, NUL, CR, what is no UTF-8, a line too long, equal lines, a
+    last line without its end"""
     rows = [(b"a\n\nb\n", 2), (b"a\nb\0c\n", 2), (b"a\nb\r\n", 2), (b"a\n\xff\n", 2), (b"a\n" + b"x" * 100001 + b"\n", 2),
             (b"a\nb\na\n", 3), (b"a\nb", 2), (b"\n", 1), (b"a\n\xed\xa0\x80\n", 2), (b"a\n\xc0\x80\n", 2),
             (b"a\n\xf4\x90\x80\x80\n", 2)]
@@ -504,7 +521,7 @@ def try_jobs(bench):
 
 
 def try_words(bench):
-    """words that are none: status 64, and nothing is made"""
+    """invalid words: status 64, and nothing is made"""
     scene = bench.scene(2, 2, makes=False)
     run, jobs = scene.run, scene.jobs
     for words in [[], ["walk", run], ["work", run, "1", jobs], ["work", run, "1", "--workers", "17", jobs],
@@ -579,7 +596,8 @@ def try_owner(bench):
 
 
 def try_partner_of_shell(bench):
-    """tools/worker/partner.sh, a partner in shell: two of them, whose workers are killed once each, perform each line once"""
+    """tools/worker/partner.sh, a partner in shell: two of them, whose workers are killed once each,
+    perform each line once"""
     scene = bench.scene(0, 2)
     texts = ["one", " two  blanks ", "three 'quotes\" $HOME `id`", "-n", "back\\slash\\n", "*"] + [f"job {k}" for k in range(6)]
     scene.write_jobs(texts)

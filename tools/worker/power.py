@@ -25,7 +25,8 @@ def settle_doubts(scene):
 
 
 def cut_one(bench, number, fault, how, beside):
-    """A first life has this fault, a second performs a line, then power is cut. With `beside`, another worker keeps the round."""
+    """Gives a first life this fault. A second one performs a line, and then power is cut. With
+    `beside`, another worker keeps the round. Returns the number of cuts."""
     scene = bench.scene(4, 2 if beside else 1, makes=False)
     power = Power(scene, bench.draws, fails="none")
     runners = [Waiting(scene, 1)] if beside else []
@@ -42,7 +43,8 @@ def cut_one(bench, number, fault, how, beside):
 
 
 def life_points(bench, beside):
-    """The calls of a first life, alone or beside another worker, up to the second line that it performs."""
+    """Returns the calls of a first life, alone or with another worker, up to the second line that
+    it performs."""
     scene = bench.scene(4, 2 if beside else 1)
     other = Waiting(scene, 1) if beside else None
     if other:
@@ -58,7 +60,8 @@ def life_points(bench, beside):
 
 
 def try_killed_and_cut(bench):
-    """killed at each call, begun again, and then the power cut: what wasn't synced is gone, and no line is performed twice"""
+    """killed at each call, begun again, and then the power cut: what wasn't synced is gone, and no
+    line is performed twice"""
     count = 0
     for beside in (False, True):
         numbers = [int(it[1]) for it in changes(life_points(bench, beside))]
@@ -70,9 +73,10 @@ def try_killed_and_cut(bench):
 
 
 def see_cuts(bench, power, calls):
-    """After each of these calls some cuts of power: the journal has a front of the records that it
-    has in the end, with all that it had before the worker last spoke, and isn't refused; jobs and
-    record are there whole, or not there, and each file has what record counts."""
+    """Tries some cuts of power after each of these calls. The journal has a front of the records
+    that it has in the end, with all that it had before the worker last printed a line, and isn't
+    refused. Jobs and record are there whole, or missing, and each file has what record counts.
+    Returns the number of cuts."""
     records_of = lambda data: records_left(power.scene.id(), "journal.1", bytes(data))
     final, spoken, count = records_of(read(f"{power.scene.run}/journal.1")), 0, 0
     for call in calls:
@@ -94,8 +98,8 @@ def see_cuts(bench, power, calls):
 
 
 def want_kept(run: str, left: dict, when: str) -> None:
-    """What a cut of power has left isn't refused: the header is whole, or not there, and each file
-    has all that it counts."""
+    """Wants the files that a cut of power has left not to be refused: the header is whole, or
+    missing, and each file has all that it counts."""
     header = headers.Header(run, left.get("record", b""))
     want(header.is_sound, f"{when}: record holds {left.get('record')}")
     for name in headers.FILES if left else ():
@@ -108,7 +112,8 @@ def want_kept(run: str, left: dict, when: str) -> None:
 
 
 def try_cut_at_each_call(bench):
-    """the power cut after each call, each time in many ways: what was acknowledged is there, and no torn text counts"""
+    """the power cut after each call, each time in many ways: what was acknowledged is there, and no
+    torn text counts"""
     count, first = 0, [int(it[1]) for it in life_points(bench, False) if it[2] == "write" and it[3] == "journal.1"]
     for number in bench.sample(first[1:], 4):
         scene = bench.scene(3, 1, makes=False)
@@ -122,9 +127,9 @@ def try_cut_at_each_call(bench):
 
 
 def recover_one(bench, number):
-    """A worker is killed while it appends, and power is cut; the next one recovers the journal, and
-    the sync of this number fails, by which the rest of the append should go; the one after it goes
-    on. The number of cuts that are made then; with no number, that of the sync."""
+    """Kills a worker while it appends, and cuts power. The next one recovers the journal, and its
+    sync of this number fails, by which the rest of the append should go. The one after it goes on.
+    Returns the number of cuts that are made then; without a number, that of the sync."""
     scene = bench.scene(4, 1, makes=False)
     power, runner = Power(scene, bench.draws, fails="none"), Runner(scene, 1)
     calls = life_points(bench, False)
@@ -150,7 +155,8 @@ def try_failed_recovery_and_cut(bench):
 
 
 def list_one(bench, number, fault, how):
-    """Worker and runner are killed; what is in doubt is listed; then power is cut. What was listed stays a doubt."""
+    """Kills worker and runner, has the doubts listed, and then cuts power. A listed doubt must stay
+    one."""
     scene = bench.scene(3, 1, makes=False)
     power = Power(scene, bench.draws, fails="none")
     runner = Runner(scene, 1)
@@ -163,7 +169,8 @@ def list_one(bench, number, fault, how):
 
 
 def try_listed_and_cut(bench):
-    """killed at each call, or a sync failed; what is in doubt is listed, and then the power cut: what was listed stays one"""
+    """killed at each call, or a sync failed; what is in doubt is listed, and then the power cut:
+    what was listed stays one"""
     calls = [it for it in changes(life_points(bench, False)) if it[3].startswith("journal.")]
     rows = [(bench, int(it[1]), "kill_after", "none") for it in calls]
     rows += [(bench, int(it[1]), errno.EIO, "none") for it in calls if it[2] == "sync"]
@@ -171,8 +178,8 @@ def try_listed_and_cut(bench):
 
 
 def try_failed_sync_and_cut(bench):
-    """each sync, also of the folder, fails and keeps nothing, later ones say that all is well, and the power is cut: no line is
-    performed twice"""
+    """each sync, also of the folder, fails and keeps nothing, later ones say that all is well, and
+    the power is cut: no line is performed twice"""
     count = 0
     for beside in (False, True):
         numbers = [int(it[1]) for it in life_points(bench, beside) if it[2] == "sync" and it[3] != "JOBS"]
@@ -182,7 +189,8 @@ def try_failed_sync_and_cut(bench):
 
 
 def answer_one(bench, number):
-    """A person's answer fails at this sync; another is taken; then power is cut. With no number: the syncs of an answer."""
+    """Fails a person's answer at this sync. Another answer is taken, and then power is cut. Returns
+    the number of cuts, or, without a number, the syncs of an answer."""
     scene = bench.scene(3, 1, makes=False)
     power = Power(scene, bench.draws, fails="none")
     runner = Runner(scene, 1)
@@ -205,14 +213,16 @@ def answer_one(bench, number):
 
 
 def try_failed_answers_and_cut(bench):
-    """each sync of a person's answer fails, another is taken, and the power cut: what was taken before and after is there"""
+    """each sync of a person's answer fails, another is taken, and the power cut: what was taken
+    before and after is there"""
     return f"{each(((bench, it) for it in answer_one(bench, None)), answer_one)} syncs"
 
 
 def boot_one(bench, number):
-    """Power is cut in a round, and its words lose all but their first write. Worker 2 has the round to itself, and is stopped at
-    this call; worker 1 doesn't get it; worker 2 is killed. Worker 1 may not go on with the old words. With no number: how many
-    calls worker 2 makes until it has the round."""
+    """Power is cut in a round, and its words lose all but their first write. Worker 2 has the round
+    to itself, and is stopped at this call; worker 1 doesn't get it; worker 2 is killed. Worker 1
+    may not go on with the old words. With no number: how many calls worker 2 makes until it has the
+    round."""
     scene = bench.scene(5, 2, makes=False)
     power = Power(scene, bench.draws)
     runners = [Runner(scene, 1), Waiting(scene, 2)]
@@ -241,12 +251,14 @@ def boot_one(bench, number):
 
 
 def try_words_of_another_boot(bench):
-    """words that a cut of power took back are not used, also by who gets them only because another was killed"""
+    """words that a cut of power took back are not used, also by who gets them only because another
+    was killed"""
     boot_one(bench, boot_one(bench, None))
 
 
 def try_order(bench):
-    """before each perform: its intent is on the disk for certain, and so are the names of all files on which it rests"""
+    """before each perform: its intent is on the disk for certain, and so are the names of all files
+    on which it rests"""
     performs = 0
     for lines, workers, lives in ((3, 1, 1), (9, 3, 3)):
         scene = bench.scene(lines, workers, makes=False)

@@ -38,7 +38,7 @@ class Registers:
         self.kept = [it for it in self.kept if it[:HEAD] == now[:HEAD]] + [now]
 
     def givens(self) -> Tuple[int, int]:
-        """How many jobs and workers the round has; none if there is no round."""
+        """Returns how many jobs and workers the round has, or 0 without a round."""
         found = GIVENS.search(read(self.path)[:HEAD])
         return (int(found[1]), int(found[2])) if found else (0, 0)
 
@@ -51,7 +51,7 @@ class Registers:
                 file.write(data)
 
     def words(self, data: Optional[bytes] = None) -> List[int]:
-        """The words in these bytes of the file, or in those of now."""
+        """Returns the words in these bytes of the file, or in those of now."""
         data = (read(self.path) if data is None else data)[HEAD:]
         return [int.from_bytes(data[at:at + 8], "little") for at in range(0, len(data), 8)]
 
@@ -84,7 +84,8 @@ class Registers:
 
 
 def hold(scene: Scene, worker: int, count: int = 1) -> Runner:
-    """A worker at work, with the line in hand that it was given as this one, counted from 1."""
+    """Returns a worker at work, with the line in hand that it was given as this one, counted from
+    1."""
     runner = Runner(scene, worker)
 
     def perform(serial: int, line: int) -> Optional[str]:
@@ -97,7 +98,7 @@ def hold(scene: Scene, worker: int, count: int = 1) -> Runner:
 
 
 def in_hand(runner: Runner) -> Tuple[int, int]:
-    """The number of the attempt that this worker asks for, and its line."""
+    """Returns the number of the attempt that this worker asks for, and its line."""
     serial, line = map(int, runner.lines[-1].split(" ")[1:3])
     return serial, line
 
@@ -123,9 +124,9 @@ def see_out(scene: Scene, *never: int) -> None:
 
 
 def take_one(bench: Bench, reply: str) -> None:
-    """Worker 2 has performed three lines and has a fourth in hand while all words are zeroed, and
-    worker 1 is given each of them but the first: it hands over none. Then the fourth is answered
-    so, or its worker and its runner die."""
+    """Zeroes all words while worker 2 has performed three lines and has a fourth in hand. The
+    registers give worker 1 each of them but the first, and it must hand over none. Then the fourth
+    is answered so, or its worker and its runner die."""
     scene = bench.scene(8, 2)
     registers, second = Registers(scene, bench.draws), hold(scene, 2, 4)
     lines = [int(it.split(" ")[2]) for it in second.lines]
@@ -148,8 +149,8 @@ def take_one(bench: Bench, reply: str) -> None:
 
 
 def try_taken(bench) -> None:
-    """a line that another worker has in hand, and that zeroed registers give: told on standard
-    error, and not handed over; the next round takes it just if it was not begun"""
+    """a line that another worker has in hand, and that zeroed registers give: reported on standard
+    error, and not handed over; the next round takes it only if it was not begun"""
     each(((bench, it) for it in ("done", "unbegun", "dies")), take_one)
 
 
@@ -175,7 +176,7 @@ def try_own_attempts(bench) -> None:
 
 
 def calls_of_a_line(bench: Bench, *others: int) -> List[int]:
-    """The calls by which worker 2 comes from its first line to its second, and that change
+    """Returns the calls by which worker 2 comes from its first line to its second, and that change
     something, while these others keep the round."""
     scene = bench.scene(8, 2)
     runners = [hold(scene, p) for p in others]
@@ -190,8 +191,8 @@ def calls_of_a_line(bench: Bench, *others: int) -> List[int]:
 
 
 def stop_one(bench: Bench, number: int) -> None:
-    """Worker 2 is stopped before this call, while the registers are brought back as they were when
-    the round began, and worker 1 works to the end; then it goes on."""
+    """Stops worker 2 before this call, while the registers are brought back as they were when the
+    round began, and worker 1 works to the end. Then worker 2 goes on."""
     scene = bench.scene(8, 2)
     registers, second = Registers(scene, bench.draws), Runner(scene, 2)
     serve([second.start(f"{number}:stop_before")], until=lambda: state_of(second) in "TZ")
@@ -253,8 +254,8 @@ def work_a_while(runners: List[Runner], most: int) -> None:
 
 
 def spoil_one(bench: Bench, kind: str, workers: int, seed: str) -> None:
-    """So many workers work, now and then one is killed, and at random moments the registers are
-    spoiled in this way; then all leave, and new ones see the run out."""
+    """Has so many workers work. Now and then one is killed, and at random moments the registers are
+    spoiled in this way. Then all leave, and new ones see the run out."""
     draws = random.Random(seed)
     scene = bench.scene(12 * workers, workers)
     registers = Registers(scene, draws)
@@ -276,7 +277,7 @@ def spoil_one(bench: Bench, kind: str, workers: int, seed: str) -> None:
 
 
 def spoiled(bench: Bench) -> Iterable[tuple]:
-    """The ways to spoil registers, each with crews that work meanwhile."""
+    """Yields the ways to spoil registers, each with crews that work meanwhile."""
     sizes = (2, 3, 4) if not bench.is_slow() or bench.is_long else (3,)
     for turn in range(20 if bench.is_long else 1):
         for workers in sizes:
@@ -319,8 +320,8 @@ def another(scene: Scene, name: str) -> None:
 
 
 def before_change(bench: Bench, name: str) -> Tuple[Scene, Runner]:
-    """A run in which worker 2 has worked, and a person has answered if `answers` is the file;
-    worker 1 has its second line in hand, so it has read the file."""
+    """Returns a run in which worker 2 has worked, and a person has answered if `answers` is the
+    file. Worker 1 has its second line in hand, so it has read the file."""
     scene = bench.scene(12, 2)
     second = Says(scene, 2, ["done 0", "untouched 75" if name == "answers" else "done 0"])
     live(second)
@@ -331,8 +332,8 @@ def before_change(bench: Bench, name: str) -> Tuple[Scene, Runner]:
 
 
 def forget(scene: Scene, name: str) -> None:
-    """What stood in the last append of this file isn't looked for any more. The test has taken it
-    away, so the log isn't judged."""
+    """Stops looking for the last append of this file. The test has taken it away, so the log isn't
+    judged."""
     scene.is_judged = False
     if name == "answers":
         scene.answers.clear()
@@ -368,8 +369,8 @@ def change_one(bench: Bench, name: str, change: Callable[[Scene, str], None]) ->
 
 
 def try_changed_journals(bench) -> str:
-    """another file behind the name of a journal or of `answers`, or a last append that is damaged,
-    gone or another one, while a worker works that has read it: it ends with 75, performs nothing
+    """the name of a journal or of `answers` gets another file, or its last append is damaged, gone
+    or another one, while a worker works that has read it: the worker ends with 75, performs nothing
     more, and refuses the file when it is started again, or goes on"""
     rows = [("journal.1", copied), *((name, change) for name in ("journal.2", "answers")
                                      for change in (copied, flipped, cut_off, another))]

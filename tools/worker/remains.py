@@ -18,7 +18,7 @@ INTENT = re.compile(rb"intent ([0-9]+) ([0-9]+) [0-9]+")
 
 
 class Remains:
-    """What can be read of a run's folder, and the names of the files that are wrong."""
+    """The readable part of a run's folder, and the names of the files that are wrong."""
 
     def __init__(self, run: str):
         self.run, self.id, self.wrong, self.rows, self.attempts = run, folder.id_of(run), [], [], {}
@@ -69,8 +69,8 @@ class Remains:
 
 
 def shown(scene) -> tuple:
-    """What it prints, and the names of the files that it says are wrong; that it changes nothing,
-    and how it ends."""
+    """Returns its output, and the names of the files that it calls wrong. It must change nothing,
+    and end with the right status."""
     before, wanted = folder.listing(scene.run), Remains(scene.run)
     status, out, err = scene.call("status", scene.run, "--damaged")
     want(folder.listing(scene.run) == before, "something was changed")
@@ -81,13 +81,13 @@ def shown(scene) -> tuple:
 
 
 def same(said: str, row: str) -> bool:
-    """Whether this line says what is in this row."""
+    """Returns whether this line says what is in this row."""
     return re.fullmatch(headers.pattern(row), said) is not None
 
 
 def show_one(scene, changes: dict) -> None:
-    """These files hold these bytes, or are missing: it shows what can be read, and names each file
-    that is wrong."""
+    """Gives these files these bytes, or removes them. It must show the readable part, and name each
+    file that is wrong."""
     with replaced(scene, changes):
         lines, wanted = shown(scene)
     for name in ("record", "jobs"):

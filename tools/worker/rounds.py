@@ -1,4 +1,5 @@
-"""Rounds: begun anew whatever became of record and words, by crews of any number, beside readers, while the jobs' file grows."""
+"""Rounds are begun anew whatever became of record and words, by crews of any number, while readers
+look and the jobs' file grows."""
 
 import errno
 import os
@@ -15,7 +16,7 @@ from worker.scene import DOOR, LATER, OVER, READ, REFUSED, SENSELESS, WRITE, Run
 
 
 def begun(bench, lines=9, workers=2):
-    """A run in whose first round two lines were performed."""
+    """Returns a run in whose first round two lines were performed."""
     scene = bench.scene(lines, workers)
     runner = Says(scene, 1, ["done 0", "done 0"])
     live(runner)
@@ -24,7 +25,8 @@ def begun(bench, lines=9, workers=2):
 
 
 def change_between(bench, name):
-    """Something is changed between two lives: a new round is begun, and each line is performed once."""
+    """Something is changed between two lives: a new round is begun, and each line is performed
+    once."""
     scene = begun(bench)
     before = folder.record_of(scene.run)
     if name == "boot":
@@ -73,7 +75,8 @@ def try_givens(bench):
 
 
 def size_one(bench, lines, workers, beta):
-    """A round of so many lines is begun by one of these workers, who performs one of them: its record and its words."""
+    """A round of so many lines is begun by one of these workers, who performs one of them: its
+    record and its words."""
     scene, first = bench.scene(lines, workers, beta=beta), lines % workers + 1
     runner = Runner(scene, first)
     runner.leaves = True
@@ -90,7 +93,8 @@ def size_one(bench, lines, workers, beta):
 
 
 def try_sizes(bench):
-    """a round of each number of lines up to 70, and some larger ones: its givens, its words, and a line that is performed"""
+    """a round of each number of lines up to 70, and some larger ones: its givens, its words, and a
+    line that is performed"""
     sizes = [*range(1, 71), 100, 255, 256, 257, 500, 1000, 2000, 3000, 4095]
     return f"{each(((bench, n, 5 * n % 16 + 1, n % 9 + 1) for n in sizes), size_one)} rounds"
 
@@ -113,7 +117,8 @@ def try_seats(bench):
 
 
 def try_closing_wins(bench):
-    """a line that one worker didn't begin and another performed later is closed, in whichever order the journals are read"""
+    """a line that one worker didn't begin and another performed later is closed, in whichever order
+    the journals are read"""
     for first, second in ((1, 2), (2, 1)):
         scene = bench.scene(3, 2)
         runner = Says(scene, first, ["unbegun"])
@@ -125,7 +130,8 @@ def try_closing_wins(bench):
 
 
 def try_jobs_changed(bench):
-    """a jobs' file that was changed or cut: refused by the number of the line, and taken again as it was"""
+    """a jobs' file that was changed or cut: refused by the number of the line, and taken again as
+    it was"""
     scene = begun(bench)
     last = [f"job {k}" for k in range(1, 9)] + ["job 99"]
     for texts, line in [(["job 1", "other", "job 3"], 2), (["job 1"], 2), ([], 1), (last, 9)]:
@@ -141,7 +147,8 @@ def try_jobs_changed(bench):
 
 
 def try_last_line(bench):
-    """a last line whose writer is at it: refused in the first round, left out of later ones, refused where no line is open"""
+    """a last line whose writer isn't done: refused in the first round, left out of later ones,
+    refused if no line is open"""
     scene = begun(bench)
     with open(scene.jobs, "a") as file:
         file.write("job 10\njob 1")
@@ -162,8 +169,9 @@ def try_last_line(bench):
 
 
 def torn_one(bench, whole, length, tail):
-    """The jobs' file ends within this byte, or in something else behind it: it is refused by the line where it isn't what the run
-    knows, or by the last line once no other is open; whole again, it is taken."""
+    """Ends the jobs' file within this byte, or puts something else after it. It is refused by the
+    first line that differs from the known one, or by the last line once no other is open. Whole
+    again, it is taken."""
     scene = begun(bench, 4)
     known, data = folder.read(scene.jobs), whole[:length] + tail
     with open(scene.jobs, "wb") as file:
@@ -187,7 +195,8 @@ def torn_one(bench, whole, length, tail):
 
 
 def try_jobs_torn(bench):
-    """a jobs' file that ends within a line, at each byte, or in NULs or others: refused by the line, and taken when it is whole"""
+    """a jobs' file that ends within a line, at each byte, or in NULs or others: refused by the
+    line, and taken when it is whole"""
     whole = b"".join(b"job %d\n" % k for k in range(1, 7))
     rows = [(bench, whole, length, tail) for length in range(len(whole)) for tail in (b"", b"\0\0\0", b"\xff\xfe", b"+-")]
     return f"{each(bench.sample(rows, 14), torn_one)} files"
@@ -220,7 +229,8 @@ def try_many_lines(bench):
 
 
 def crew_one(bench, lines, workers, pauses, seed):
-    """A crew; with pauses some of its workers are stopped in the middle of a round for a while, others killed."""
+    """A crew; with pauses some of its workers are stopped in the middle of a round for a while,
+    others killed."""
     draws = random.Random(seed)
     scene = bench.scene(lines, workers)
     runners = [Runner(scene, p) for p in range(1, workers + 1)]
@@ -254,14 +264,16 @@ def crew_one(bench, lines, workers, pauses, seed):
 
 
 def try_crews(bench):
-    """crews of 1 to 16 workers, with and without pauses and kills: each line is performed once, or in doubt"""
+    """crews of 1 to 16 workers, with and without pauses and kills: each line is performed once, or
+    in doubt"""
     sizes = range(1, 17) if bench.is_long else (1, 2, 5, 16)
     rows = [(bench, 3 * m + 8, m, pauses, f"{bench.seed}.{m}.{pauses}") for m in sizes for pauses in (False, True)]
     return f"{each(rows * (5 if bench.is_long else 1), crew_one)} crews"
 
 
 def try_stopped_in_a_round(bench):
-    """a worker stopped in the middle of a round: no other begins a round beside it, and it goes on afterwards"""
+    """a worker stopped in the middle of a round: no other begins a round meanwhile, and it goes on
+    afterwards"""
     scene = bench.scene(6, 2)
     runner, other = Runner(scene, 1), Runner(scene, 2)
     runner.perform = lambda serial, line: None
@@ -283,8 +295,9 @@ def try_stopped_in_a_round(bench):
 
 
 def stop_between(bench, number):
-    """Worker 2 is stopped at this call, while worker 1 leaves its round, and worker 3 begins the next and works in it; then it
-    goes on. With no number: the calls of worker 2 from its guard to what it says first."""
+    """Worker 2 is stopped at this call, while worker 1 leaves its round, and worker 3 begins the
+    next and works in it; then it goes on. With no number: the calls of worker 2 from its guard to
+    what it says first."""
     scene = bench.scene(9, 3)
     first, second, third = (Runner(scene, p) for p in (1, 2, 3))
     first.perform = lambda serial, line: None
@@ -311,14 +324,16 @@ def stop_between(bench, number):
 
 
 def try_stopped_between_rounds(bench):
-    """a worker stopped at each call between its guard and its work, while another round is begun: it works in no old one"""
+    """a worker stopped at each call between its guard and its work, while another round is begun:
+    it works in no old one"""
     numbers = [int(it[1]) for it in stop_between(bench, None)]
     return f"{each(((bench, it) for it in bench.sample(numbers, 30)), stop_between)} stops"
 
 
 def collide_one(bench, lines, number):
-    """Worker 1 has so many lines behind it and one in its hand; worker 2 is stopped at this call, while worker 1 goes on to its
-    next line; then worker 2 goes on. With no number: the calls of worker 2 on words."""
+    """Lets two workers collide. Worker 1 has performed so many lines and has one in its hand.
+    Worker 2 is stopped at this call, while worker 1 goes on to its next line. Then worker 2 goes
+    on. Without a number: returns the calls of worker 2 on words."""
     scene = bench.scene(6, 2)
     first, second = Runner(scene, 1), Runner(scene, 2)
     first.perform = lambda *given: Runner.perform(first, *given) if len(first.lines) <= lines else None
@@ -341,14 +356,16 @@ def collide_one(bench, lines, number):
 
 
 def try_collisions(bench):
-    """a worker stopped at each access of the words while another goes on by a line: no job is claimed by both"""
+    """a worker stopped at each access of the words while another goes on by a line: no job is
+    claimed by both"""
     rows = [(bench, lines, number) for lines in range(4) for number in collide_one(bench, lines, None)]
     return f"{each(bench.sample(rows, 60), collide_one)} stops"
 
 
 def spoil_one(bench, word, value):
-    """A word gets this value, that no worker leaves, while worker 1 has a line in its hand; worker 2 begins, and worker 1 goes on.
-    Each ends by naming the word by which it noticed, or has nothing to do with it. Then the next round begins with new words."""
+    """A word gets this value, that no worker leaves, while worker 1 has a line in its hand; worker
+    2 begins, and worker 1 goes on. Each ends by naming the word by which it noticed, or has nothing
+    to do with it. Then the next round begins with new words."""
     scene = bench.scene(8, 2)
     first, second = Runner(scene, 1), Runner(scene, 2)
     first.perform = lambda *given: Runner.perform(first, *given) if len(first.lines) < 3 else None
@@ -369,15 +386,16 @@ def spoil_one(bench, word, value):
 
 
 def answer_to(runner):
-    """Performs the line that this runner's worker said last: the answer to it."""
+    """Performs the last line of this runner's worker, and returns the answer to it."""
     serial, line = map(int, runner.lines[-1].split(" ")[1:3])
     reply = Runner.perform(runner, serial, line)
     return f"{reply.split(' ')[0]} {serial} 0 go\n"
 
 
 def return_one(bench, spoil):
-    """Worker 2 has two lines behind it and is killed; its words are changed so that no worker leaves them so, while worker 1 is at
-    work. It goes on with nothing until both have ended and the next round is begun."""
+    """Kills worker 2, which has performed two lines, and changes its words so that no worker leaves
+    them so, while worker 1 is at work. It goes on with nothing until both have ended and the next
+    round is begun."""
     scene = bench.scene(8, 2)
     first, second = Runner(scene, 1), Runner(scene, 2)
     first.perform = lambda serial, line: None
@@ -401,7 +419,8 @@ def return_one(bench, spoil):
 
 
 def spoils():
-    """Changes of worker 2's words that no worker leaves: its count of claims, its announcement, its row."""
+    """Changes of worker 2's words that no worker leaves: its count of claims, its announcement, its
+    row."""
     seat = 2
 
     def row(words, m, n, place, value):
@@ -422,14 +441,16 @@ def spoils():
 
 
 def try_words_spoiled(bench):
-    """words of values that no worker leaves, while others work: it is named, or nothing to do with; each line is done once"""
+    """words of values that no worker leaves, while others work: it is named, or nothing to do with;
+    each line is done once"""
     rows = [(bench, word, value) for word in range(2 * (8 + 3) + 1) for value in (9, 2**32 + 1, 2**64 - 1)]
     count = each(bench.sample(rows, 10), spoil_one)
     return f"{count + each(((bench, it) for it in spoils()), return_one)} changes"
 
 
 def read_one(scene, is_list):
-    """One reader beside the writers: what was performed before it began isn't open, and its counts add up."""
+    """Runs one reader while the writers write. A line that was performed before it began isn't
+    open, and its counts add up."""
     before = {it[2] for it in scene.effects()}
     lines = len(scene.look().lines)
     if is_list:
@@ -445,7 +466,7 @@ def read_one(scene, is_list):
 
 
 def read_beside(bench, seed):
-    """200 readers beside four writers of one run."""
+    """Runs 200 readers while four writers write one run."""
     scene, rounds = bench.scene(40, 4), 0
     runners = [Runner(scene, p) for p in range(1, 5)]
     for count in range(200):
@@ -467,12 +488,14 @@ def read_beside(bench, seed):
 
 
 def try_readers(bench):
-    """readers beside four writers, while the jobs' file grows and rounds begin: never a wrong count; in the long form 50 times"""
+    """readers while four writers write, the jobs' file grows and rounds begin: never a wrong count;
+    in the long form 50 times"""
     return f"{200 * each(((bench, k) for k in range(50 if bench.is_long else 1)), read_beside)} readers"
 
 
 def try_unreadable(bench):
-    """a journal, jobs, record or answers that can't be read is never taken for an empty one: nothing is begun, and it is named"""
+    """a journal, jobs, record or answers that can't be read is never taken for an empty one:
+    nothing is begun, and it is named"""
     for name in ("journal.2", "journal.16", "answers", "jobs"):
         scene = begun(bench)
         path = f"{scene.run}/{name}"
@@ -504,7 +527,8 @@ def fail_reader(bench, scene, number, call, file):
 
 
 def try_failed_readers(bench):
-    """each call of status and doubts refused in turn: it ends, names the file, and shows no counts"""
+    """each call of status and doubts refused in turn: it ends, names the file, and shows no
+    counts"""
     scene, count = begun(bench), 0
     runner = Says(scene, 2, ["doubt"])
     live(runner)

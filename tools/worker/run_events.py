@@ -115,7 +115,7 @@ class Translation:
         self.emit("performs", worker, serial, line)
 
     def take_runner(self, kind: str, text: str) -> None:
-        """A runner hears a line of its worker, or replies."""
+        """Notes that a runner gets a line of its worker, or replies."""
         process = self.processes.get(self.line.process)
         if process is None:  # a process of the test stands between the two
             return
@@ -194,7 +194,7 @@ class Translation:
     # Appends.
 
     def begin_append(self, process: Process, entries: List[str]) -> None:
-        """These entries are appended by a worker's process."""
+        """Notes that a worker's process appends these entries."""
         self.let_go(process.worker)
         for entry in entries:
             kind, serial, *rest = entry.split(" ")

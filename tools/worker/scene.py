@@ -1,8 +1,10 @@
-"""What the parts of tools/try_worker share: a run in a folder of its own, runners that start the worker and answer it, and an
-account of all that was performed, listed and acknowledged, which is audited at the end.
+"""The common parts of the tests of tools/try_worker: a run in a folder of its own, runners, and an
+account. The runners start the worker and answer it. The account has all that was performed, listed
+and acknowledged, and is audited at the end. qa/harness has the parts that other tools need too.
 
-A runner here is what a run's partner has to be: it holds runner.P, locks command.P.S before it performs, tries that lock anew
-afterwards, remembers the ends that it saw, and drops what a dead worker said. To perform is to write it in the account.
+A runner here keeps the duties of a run's partner: it holds runner.P, locks command.P.S before it
+performs, tries that lock anew afterwards, remembers the ends that it saw, and drops the lines of a
+dead worker. To perform is to write it in the account.
 """
 
 import contextlib
@@ -18,6 +20,8 @@ import tempfile
 import time
 from typing import List
 
+from harness import bench as harness
+from harness.bench import Wrong, spread, want
 from worker import folder
 
 OVER, WORDS, REFUSED, LEFT, SENSELESS, MEMORY, WRITE, READ, LATER, ANSWER, DOOR = 0, 64, 65, 69, 70, 71, 73, 74, 75, 76, 77
@@ -31,18 +35,9 @@ TAKEN = re.compile(r"amo_worker: line ([1-9][0-9]*): attempt ([1-9][0-9]*\.[1-9]
                    r" stands against it; not started\n")
 
 
-class Wrong(Exception):
-    """What is wrong with the program."""
-
-
-def want(so, what):
-    if not so:
-        raise Wrong(what)
-
-
 def each(items, try_one):
-    """Tries each of these, the first part of each a bench or a scene, as long as there is time; how many. What is wrong with some
-    is told together."""
+    """Tries each of these, the first part of each a bench or a scene, as long as there is time.
+    Returns how many. It raises all mistakes together."""
     wrongs, count = [], 0
     for it in items:
         bench = it[0] if isinstance(it[0], Bench) else it[0].bench
@@ -62,15 +57,16 @@ def each(items, try_one):
     return count
 
 
-class Bench:
-    """What is tried: a program, in a folder, with the library of faults."""
+class Bench(harness.Bench):
+    """A bench with a worker's program, and the library of faults."""
 
     def __init__(self, program, room, is_long, seed, mistake=None):
-        self.program, self.room, self.is_long, self.mistake = os.path.abspath(program), os.path.realpath(room), is_long, mistake
-        self.draws, self.seed, self.scenes, self.skipped, self.processes = random.Random(seed), seed, 0, [], 0
+        super().__init__(room, is_long, seed)
+        self.program, self.mistake = os.path.abspath(program), mistake
+        self.scenes, self.processes = 0, 0
         self.made: List[Scene] = []
         self.dropped: list = []  # what came of the logs of scenes whose files are gone
-        self.library, self.runners, self.watches, self.end, self.last = f"{self.room}/faults.so", [], True, None, None
+        self.library, self.runners, self.watches, self.last = f"{self.room}/faults.so", [], True, None
         kind = folder.type_of(self.room)
         self.kind = [] if kind in folder.TAKEN else ["--file-system", kind]  # (as in a container)
 
@@ -78,7 +74,7 @@ class Bench:
         return [sys.executable, "-I", "-S", self.program] if self.is_slow() else [self.program]
 
     def is_slow(self):
-        """Whether it is a program in Python, which takes a tenth of a second to begin."""
+        """Returns whether it is a program in Python, which takes a tenth of a second to begin."""
         return self.program.endswith(".py")
 
     def close(self):
@@ -87,18 +83,12 @@ class Bench:
             it.close()
         self.runners.clear()
 
-    def has_time(self):
-        return self.end is None or time.monotonic() < self.end
-
     def sample(self, whole, count):
-        """All of these in the long form, else so many of them, spread."""
-        whole = list(whole)
-        if self.is_long or len(whole) <= count:
-            return whole
-        return [whole[k * len(whole) // count] for k in range(count)]
+        """Returns all of these in the long form, else so many of them, spread."""
+        return list(whole) if self.is_long else spread(list(whole), count)
 
     def scene(self, lines=3, workers=1, **more):
-        """A new run, in a folder of its own."""
+        """Returns a new run, in a folder of its own."""
         self.scenes += 1
         self.last = Scene(self, tempfile.mkdtemp(dir=self.room), lines, workers, **more)
         self.made.append(self.last)
@@ -139,15 +129,16 @@ class Scene:
         return ["--workers", str(self.workers)] + (["--beta", str(self.beta)] if self.beta else [])
 
     def common(self, words=()):
-        """The options of each command, but those that these words have."""
+        """Returns the options of each command, but those that these words have."""
         return ["--boot-id", self.boot] + ([] if "--file-system" in words else self.bench.kind)
 
     def id(self) -> str:
-        """The run's id, as its folder says."""
+        """Returns the run's id, as its folder says."""
         return folder.read(f"{self.run}/id").decode().strip()
 
     def environment(self, faults=None):
-        """What a process of this run is given: the library of faults, and where it writes the calls down."""
+        """Returns the environment of a process of this run: the library of faults, and the file for
+        its calls."""
         named = {"PATH": os.environ["PATH"], "LD_PRELOAD": self.bench.library, "AMO_RUN": self.run, "AMO_JOBS": self.jobs,
                  "AMO_HARNESS": str(os.getpid()), "AMO_CALLS": self.calls}
         extra = {"AMO_FAULTS": faults, "AMO_LOG": self.log if self.logs else None, "AMO_BYTES": "yes" if self.keeps else None,
@@ -155,7 +146,8 @@ class Scene:
         return {**named, **{name: value for name, value in extra.items() if value}, **self.more}
 
     def call(self, command, *words, faults=None):
-        """A command that ends by itself: its status and what it wrote on both streams."""
+        """Runs a command that ends on its own. Returns its status and its output on both
+        streams."""
         self.bench.processes += 1
         ran = subprocess.run([*self.bench.command(), command, *words, *self.common(words)],
                              stdin=subprocess.DEVNULL, capture_output=True, timeout=300,
@@ -163,12 +155,13 @@ class Scene:
         return ran.returncode, ran.stdout.decode("utf-8", "replace"), ran.stderr.decode("utf-8", "replace")
 
     def logged(self):
-        """The calls in the log, each a list of its words."""
+        """Returns the calls in the log, each a list of its words."""
         return [line.split(" ") for line in folder.read(self.log).decode().splitlines()]
 
     @contextlib.contextmanager
     def still(self):
-        """Keeps all processes from calls that are logged: who is killed meanwhile leaves no call half written down."""
+        """Keeps all processes from calls that are logged: who is killed meanwhile leaves no call
+        half written down."""
         if not self.logs or self.is_still:
             yield
             return
@@ -189,7 +182,7 @@ class Scene:
             file.write(f"\n{text} .".encode())
 
     def performed(self, worker, serial, line):
-        """Notes that this line was performed, and stops where it was before."""
+        """Notes that this line was performed, with the count before."""
         self.note_call(f"performed {worker}.{serial} {line}")
         before, self.by[line] = self.by.get(line), f"{worker}.{serial}"
         self.account.append(("performed", worker, serial, line))
@@ -215,7 +208,7 @@ class Scene:
         return found
 
     def answer(self, worker, serial, line, verdict):
-        """A person's answer, which has to be taken. What is performed here arrives at once, so
+        """Gives a person's answer, which must be taken. A request here arrives at once, so
         `not-done` needn't wait."""
         text = folder.read(f"{self.run}/jobs").decode().split("\n")[line - 1]
         at_once = ["--now"] if verdict == "not-done" else []
@@ -229,14 +222,15 @@ class Scene:
         self.answers[worker, serial] = verdict
 
     def again(self):
-        """What is untouched is opened again, once."""
+        """Opens each untouched line again, once."""
         found = [it for it in self.look().intents.values() if it.answer == "untouched" and not it.found]
         status, _, err = self.call("again", self.run)
         want(status == OVER, f"again: status {status}, {err}")
         self.account += [("reopened", it.worker, it.serial, it.line) for it in found]
 
     def audit(self, is_over=True):
-        """What no run may show; and, where it is over, that each line was performed, or is told."""
+        """Raises Wrong if the run shows what no run may show. If it is over, each line must be
+        performed, or listed."""
         performed, listed, said = {}, {}, {}
         for kind, worker, serial, line in self.account:
             name = f"line {line} by {worker}.{serial}"
@@ -268,7 +262,8 @@ class Scene:
             self.audit_ends(found, kinds, performed)
 
     def audit_kept(self, found, performed):
-        """What was acknowledged stands in the journals, and what was performed is closed by its own intent."""
+        """Wants acknowledged records to stand in the journals, and each performed line to be closed
+        by its own intent."""
         for (worker, serial), (line, answer) in self.acknowledged.items():
             it, gone = found.intents.get((worker, serial)), "an acknowledged line is gone:"
             want(it and it.line == line, f"{gone} intent {worker}.{serial} of line {line}")
@@ -280,14 +275,15 @@ class Scene:
             want(name in closing, f"line {line}, performed by {name}, is closed by {closing}")
 
     def take_lines(self, worker, said):
-        """Notes the lines that a worker says are taken. If nobody has spoiled the registers, there are none."""
+        """Notes the lines that a worker reports as taken. They must be none unless somebody has
+        spoiled the registers."""
         found = TAKEN.findall(said)
         self.taken += [(worker, int(line), attempt) for line, attempt in found]
         want(not (found and self.has_true_registers), f"worker {worker} was given a line that isn't open: {said}")
 
     def audit_words(self):
-        """In the words of a round of this boot each job is filed once, and each worker has claimed what it filed, and at most one
-        more."""
+        """In the words of a round of this boot each job is filed once, and each worker has claimed
+        what it filed, and at most one more."""
         taken = []
         for claims, announced, row in folder.rows_of(self.run, folder.read(self.boot).decode().strip()):
             want(claims in (len(row), len(row) + 1), f"{claims} claims, and {len(row)} jobs are filed")
@@ -302,9 +298,10 @@ class Scene:
 
 
 class Runner:
-    """The runner of a worker. What it does at a line is `perform` and `was`, which a test may replace. A stray one has no lock:
-    it starts a worker though another runner may have that number. Its worker stays for the next round if `stays` is set; else
-    it closes its pipe at `over`, and so the worker ends."""
+    """The runner of a worker. It handles a line by `perform` and `was`, which a test may replace. A
+    stray one has no lock: it starts a worker though another runner may have that number. Its worker
+    stays for the next round if `stays` is set; else it closes its pipe at `over`, and so the worker
+    ends."""
 
     def __init__(self, scene, worker, waits=240, is_stray=False):
         self.scene, self.worker, self.process, self.lock = scene, worker, None, None
@@ -317,7 +314,8 @@ class Runner:
             want(self.lock, f"runner.{worker} is held")
 
     def taken(self, name, waits=0):
-        """The lock on a file of the run, as an open file; None where it can't be got."""
+        """Returns the lock on a file of the run, as an open file; None if another process has
+        it."""
         file, end = open(f"{self.scene.run}/{name}", "ab"), time.monotonic() + waits
         while True:
             try:
@@ -330,7 +328,7 @@ class Runner:
                 time.sleep(0.005)
 
     def start(self, faults=None):
-        """Starts its worker; what the one before had said and nobody has read is dropped."""
+        """Starts its worker, and drops lines of the one before that nobody has read."""
         scene = self.scene
         scene.bench.processes += 1
         words = [*scene.bench.command(), "work", scene.run, str(self.worker), *scene.givens(), scene.jobs]
@@ -342,7 +340,8 @@ class Runner:
         return self
 
     def read(self):
-        """Reads what is there, and does what the whole lines say. False at the end, when the status is known."""
+        """Reads what is there, and does what the whole lines say. False at the end, when the status
+        is known."""
         part = os.read(self.process.stdout.fileno(), 1 << 16)
         *lines, self.rest = (self.rest + part).split(b"\n")
         for line in lines:
@@ -386,14 +385,15 @@ class Runner:
             self.process.stdin.write(data)
 
     def see_kept(self, kind, serial, number):
-        """No intent is said anew that was acknowledged, and none asked for whose answer was: else that is gone."""
+        """Wants no acknowledged intent to be put anew, and none to be asked for whose answer was
+        acknowledged. Otherwise that is gone."""
         line, answer = self.scene.acknowledged.get((self.worker, serial), (None, None))
         is_new = line is None if kind == b"perform" else line in (None, number) and answer is None
         said = f"{kind.decode()} {self.worker}.{serial} of line {number}"
         want(is_new, f"an acknowledged line is gone: it says {said}, and there was {answer or 'the intent'} of line {line}")
 
     def is_dead(self):
-        """Whether it has died, or does in a moment."""
+        """Returns whether it has died, or does in a moment."""
         end = time.monotonic() + 0.05
         while self.process.poll() is None and time.monotonic() < end:
             time.sleep(0.002)
@@ -419,7 +419,7 @@ class Runner:
         self.scene.take_lines(self.worker, said.decode("utf-8", "replace"))
 
     def acknowledge(self):
-        """What it went on after is noted."""
+        """Notes the record that it went on after."""
         if self.waiting:
             serial, line, answer = self.waiting
             self.scene.acknowledged[self.worker, serial] = line, None if answer == "running" else answer
@@ -441,7 +441,8 @@ class Runner:
             self.answer(serial, number, reply)
 
     def answer(self, serial, number, reply):
-        """Says this of an intent to the worker, and goes by it where the worker can hear no more."""
+        """Answers the worker on an intent, and goes by that answer if the worker can read no
+        more."""
         words = reply.split(" ")
         self.waiting = serial, number, words[0]
         if words[0] == "unbegun":
@@ -466,7 +467,8 @@ class Runner:
         self.scene.performed(self.worker, serial, line)
 
     def after(self, serial):
-        """What it says of a command that has ended: it is over where its lock can be got anew."""
+        """Returns the answer on a command that has ended. It is over if its lock can be got
+        anew."""
         again = self.taken(f"command.{self.worker}.{serial}")
         if not again:
             return "running"
@@ -475,7 +477,8 @@ class Runner:
         return self.seen.get(serial, "doubt")
 
     def was(self, serial, line):
-        """What it knows of an intent of an earlier worker; that it knows nothing is final once the command's lock can be got."""
+        """Returns the answer on an intent of an earlier worker. It is final that nothing is known
+        once the command's lock can be got."""
         return self.after(serial)
 
     def kill(self):
@@ -497,8 +500,8 @@ class Runner:
 
 
 def serve(runners, seconds=240, until=None):
-    """Reads what the workers of these runners say, until each has ended, or something is so. A time in which this tool itself was
-    stopped doesn't count."""
+    """Reads what the workers of these runners say, until each has ended, or something is so. A time
+    in which this tool itself was stopped doesn't count."""
     seen = time.monotonic()
     while not (until and until()):
         living = {it.process.stdout.fileno(): it for it in runners if it.process}
@@ -519,7 +522,8 @@ def live(runner, faults=None):
 
 
 def see_out(runners, seconds=600, draws=None):
-    """Has the workers stay, and starts them again, until each says that all is done, or that it was told to leave."""
+    """Has the workers stay, and starts them again, until each reports that all is done, or that it
+    was asked to leave."""
     seen, ended, due = time.monotonic(), set(), {}
     for it in runners:
         it.stays = True

@@ -21,13 +21,13 @@ class Intent:
         return not (self.answer and self.answer[0] == b"unbegun" or self.found == b"not-done")
 
     def ended(self):
-        """When it ended, in seconds since 1970; 0 if no record says so."""
+        """Returns when it ended, in seconds since 1970; 0 if no record has that."""
         kind, *rest = self.answer or [None]
         count = {b"done": 2, b"doubt": 1, b"untouched": 2}.get(kind)
         return int(rest[-1]) if count == len(rest) else 0
 
     def state(self):
-        """Where it stands, of KINDS; only for one that closes its line."""
+        """Returns its status, of KINDS, if it closes its line."""
         if self.found == b"done":
             return "done"
         if self.answer is None:
@@ -43,7 +43,7 @@ OLD_WANTED = {**WANTED, b"doubt": 1, b"untouched": 2}
 
 
 def records_in(append):
-    """The records of an append, one or two; more are none."""
+    """Returns the records of an append, one or two. More than two are invalid."""
     records = append.split(b"; ")
     if MISTAKE == "reads_three_records":
         return records
@@ -51,7 +51,8 @@ def records_in(append):
 
 
 def journal_of(worker, it, appends, count):
-    """The intents that appends say; each of their records has to be one that may stand there."""
+    """Returns the intents that appends say; each of their records has to be one that may stand
+    there."""
     intents, has_times = [], not it.is_old and MISTAKE != "outcomes_without_times"
     name = f"{it.run}/journal.{worker}"
     for place, record in ((place, it) for place, append in enumerate(appends, 1)

@@ -52,15 +52,16 @@ def noted(call: str, *words: object) -> Iterator[None]:
 
 
 def shown(data: bytes) -> str:
-    """A text as it is, or its length and SHA-256 if it is long or has other bytes than words."""
+    """Returns a text as it is, or its length and SHA-256 if it is long or has other bytes than
+    words."""
     if len(data) <= LONGEST and all(0x20 <= it <= 0x7e for it in data):
         return data.decode()
     return f"{len(data)} {hashlib.sha256(data).hexdigest()}"
 
 
 def line_text(line: bytes) -> str:
-    """The first three words of a line to the runner, and the length and SHA-256 of the rest. A
-    line of fewer words is shown whole."""
+    """Returns the first three words of a line to the runner, and the length and SHA-256 of the
+    rest. A line of fewer words is shown whole."""
     words = line[:-1].split(b" ", 3)
     if len(words) < 4:
         return shown(line[:-1])
@@ -69,7 +70,7 @@ def line_text(line: bytes) -> str:
 
 
 def attempts_text(lines: List[int]) -> str:
-    """How many attempts have these lines, the last line, and the SHA-256 of all."""
+    """Returns how many attempts have these lines, the last line, and the SHA-256 of all."""
     text = "".join(f"{it} " for it in lines)
     last = lines[-1] if lines else 0
     return f"{len(lines)} {last} {hashlib.sha256(text.encode()).hexdigest()}"

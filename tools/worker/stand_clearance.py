@@ -17,8 +17,8 @@ SKIPPED = 2  # the worker whose journal is skipped by mistake
 
 
 class Clearance:
-    """What a worker has seen of `answers` and of all journals since it began. It reads all of them
-    anew at each intent."""
+    """The part of `answers` and of all journals that a worker has read since it began. It reads all
+    of them anew at each intent."""
 
     def __init__(self, it, own: Journal):
         self.it, self.own, self.before = it, own, None
@@ -55,7 +55,7 @@ class Clearance:
             pass
 
     def standing(self, serial: int, line: int, count: int) -> Optional[Intent]:
-        """The first other attempt at the line that isn't opened."""
+        """Returns the first other attempt at the line that isn't opened."""
         header = header_of(self.it)
         answers = self.read(header, "answers")
         journals = []
@@ -71,7 +71,8 @@ class Clearance:
         return None
 
     def attempts(self, worker: int, records: List[bytes], count: int) -> List[Intent]:
-        """The attempts that these records say; a worker is to come back where they can't be."""
+        """Returns the attempts of these records. If they are impossible, the worker has to come
+        back."""
         try:
             return journal_of(worker, self.it, records, count)
         except End as end:
@@ -87,7 +88,7 @@ class Clearance:
             journals[worker - 1][serial - 1].found = kind
 
     def read(self, header, name: str) -> List[bytes]:
-        """The records of a file, which has to begin with all that was read of it before."""
+        """Returns the records of a file, which has to begin with all that was read of it before."""
         with noted("read_on", name):
             return self.read_now(header, name)
 
@@ -105,8 +106,8 @@ class Clearance:
         return found.records
 
     def bytes_of(self, it, name: str) -> bytes:
-        """The bytes of a file, which has to be the one that was read before; the own journal is
-        read as it is open."""
+        """Returns the bytes of a file, which has to be the one that was read before; the own
+        journal is read as it is open."""
         path = f"{it.run}/{name}"
         if path == self.own.path:
             return whole(self.own.file, path)
@@ -131,7 +132,7 @@ class Clearance:
 
 
 def file_of(found: os.stat_result) -> Tuple[int, int]:
-    """Which file it is."""
+    """Returns which file it is."""
     return found.st_dev, found.st_ino
 
 
@@ -141,7 +142,7 @@ def other_file(path: str) -> End:
 
 
 def stands(it, intent: Intent) -> bool:
-    """Whether this attempt of another number keeps its line from being handed over."""
+    """Returns whether this attempt of another number keeps its line from being handed over."""
     if MISTAKE == "own_attempts_are_not_looked_at" and intent.worker == it.worker:
         return False
     if MISTAKE == "skips_a_journal" and intent.worker == SKIPPED != it.worker:

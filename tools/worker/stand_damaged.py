@@ -18,7 +18,7 @@ def say(text, record=b""):
 
 
 def bytes_of(it, name):
-    """The bytes of a file, or why there are none."""
+    """Returns the bytes of a file, or the reason why it has none."""
     try:
         data = content(f"{it.run}/{name}")
     except End as end:
@@ -29,7 +29,7 @@ def bytes_of(it, name):
 
 
 def header_in(it):
-    """The header as far as it can be taken, and what is wrong with it."""
+    """Returns the header as far as it can be taken, and what is wrong with it."""
     data, wrong = bytes_of(it, "record")
     if wrong == "missing":
         return Header(), None
@@ -40,7 +40,7 @@ def header_in(it):
 
 
 def read_one(it, header, name):
-    """The appends of a file that can be read, and what is wrong with it."""
+    """Returns the appends of a file that can be read, and what is wrong with it."""
     data, wrong = bytes_of(it, name)
     found = appends_in(it, name, data)
     damage = found.damage()
@@ -50,13 +50,14 @@ def read_one(it, header, name):
 
 
 def told(found):
-    """How many appends there are, in words."""
+    """Returns how many appends there are, in words."""
     count = len(found.records)
     return f"{count} append{'' if count == 1 else 's'}"
 
 
 def read_again(it, header, name):
-    """The same, of a file that shows this twice, since it may have been read beside a writer."""
+    """Returns the readable part of a file that shows this twice, since it may have been read during
+    a write."""
     before = None
     for _ in range(LOOKS):
         found, wrong = read_one(it, header, name)
@@ -67,7 +68,8 @@ def read_again(it, header, name):
 
 
 def read_all(it):
-    """The header, what is wrong with it, and of each other file what can be read and is wrong."""
+    """Returns the header, what is wrong with it, and of each other file what can be read and is
+    wrong."""
     for is_last in (False, True):
         header, wrong = header_in(it)
         found = {name: read_again(it, header, name) for name in FILES}
@@ -80,8 +82,8 @@ def read_all(it):
 
 
 def lines_in(it, header, is_begun):
-    """How many lines `jobs` has, or None if it can't be read; and what is wrong with it. Before
-    the first round there is none."""
+    """Returns how many lines `jobs` has, or None if it can't be read; and its fault. Before the
+    first round it is missing."""
     data, wrong = bytes_of(it, "jobs")
     if wrong == "missing" and not is_begun:
         return None, None

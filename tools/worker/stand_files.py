@@ -1,4 +1,4 @@
-"""What the stand-in for the worker stands on: its mistakes, its ends, its calls on files."""
+"""The base of the stand-in for the worker: its mistakes, its ends, its calls on files."""
 
 import errno
 import fcntl
@@ -52,17 +52,17 @@ OLD_RUN = ("made by amo 0.1.0, without an `id`; start a new run of its open line
 
 
 class End(Exception):
-    """How it ends: a status, and a message for standard error."""
+    """The end of the process: a status, and a message for standard error."""
 
 
 def number(word, most=2**64 - 1):
-    """The number that a word says, or None."""
+    """Returns the number that a word says, or None."""
     is_one = word.isdigit() and word.isascii() and (word[:1] != b"0" or word == b"0")
     return int(word) if is_one and len(word) < 21 and int(word) <= most else None
 
 
 def numbers(words, count):
-    """The numbers that so many words say, or None."""
+    """Returns the numbers that so many words say, or None."""
     found = [number(it) for it in words]
     return found if len(found) == count and None not in found else None
 
@@ -81,7 +81,7 @@ def refused_folder(it, status, message):
 
 
 def called(status, path, call, *given):
-    """A call on this file; if it fails, the end with this status."""
+    """Returns a call on this file; if it fails, the end with this status."""
     while True:
         try:
             return call(*given)
@@ -98,7 +98,7 @@ def opened(path, flags, status):
 
 
 def whole(file, path):
-    """All bytes of an open file."""
+    """Returns all bytes of an open file."""
     parts, place = [], 0
     while part := called(74, path, os.pread, file, 1 << 16, place):
         parts.append(part)
@@ -107,7 +107,7 @@ def whole(file, path):
 
 
 def content(path):
-    """All bytes of a file, or None where there is none; else it has to be read."""
+    """Returns all bytes of a file, or None if it is missing. Any other failure ends the process."""
     try:
         file = opened(path, os.O_RDONLY, None)
     except FileNotFoundError:
@@ -137,7 +137,7 @@ def sync_folder(path):
 
 
 def has_lock(file, path, how):
-    """Whether it got this lock, and the file is still the one of that name."""
+    """Returns whether it got this lock, and the file is still the one of that name."""
     try:
         called(None, path, fcntl.flock, file, how | fcntl.LOCK_NB)
     except BlockingIOError:
@@ -157,8 +157,8 @@ def missing(path):
 
 
 def opened_part(it, name, flags):
-    """A file that the door makes, which must be there;
-    None if it is missing in a folder of 0.1.0."""
+    """Returns a file that the door makes, which must be there; None if it is missing in a folder of
+    0.1.0."""
     path = f"{it.run}/{name}"
     try:
         return opened(path, flags | (os.O_CREAT if MISTAKE == "missing_is_empty" else 0), None)
@@ -171,8 +171,8 @@ def opened_part(it, name, flags):
 
 
 def part(it, name):
-    """All bytes of a file that the door makes, none if it is missing;
-    in a folder of 0.1.0 alone it may be missing or empty."""
+    """Returns all bytes of a file that the door makes, none if it is missing; in a folder of 0.1.0
+    alone it may be missing or empty."""
     data = content(f"{it.run}/{name}")
     if not it.is_old:
         check_part(it, name, None if data is None else len(data))

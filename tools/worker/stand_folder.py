@@ -18,7 +18,7 @@ NUMBERED = {"journal": 1, "runner": 1, "pace": 1, "command": 2, "out": 2, "err":
 
 
 def mount_of(it, path):
-    """The type, the options and the device of the mount on which a folder lies."""
+    """Returns the type, the options and the device of the mount on which a folder lies."""
     file = opened(path, os.O_RDONLY | os.O_DIRECTORY, 74)
     words = (content(f"/proc/self/fdinfo/{file}") or b"").split()
     os.close(file)
@@ -49,7 +49,7 @@ def check_mount(it, path):
 
 
 def is_made(name):
-    """Whether amo makes files of this name in a run's folder."""
+    """Returns whether amo makes files of this name in a run's folder."""
     kind, *said = (name.removesuffix(".new").split(".") if name.startswith("chunk.")
                    else name.split("."))
     return name in FIXED or (len(said) == NUMBERED.get(kind)
@@ -94,8 +94,8 @@ def make_folder(it):
 
 
 def make_beside(it):
-    """Makes the folder whole beside, and gives it its name;
-    if something has that name by then, that is gone on with."""
+    """Makes the folder whole next to its place, and gives it its name. If something has that name
+    by then, it goes on with that."""
     new = f"{it.run}.new-{drawn().decode()}"
     called(73, new, os.mkdir, new, 0o700)
     try:
@@ -167,7 +167,7 @@ def fill_empty(path, data):
 
 
 def check_id(it, found):
-    """Refuses a folder whose id is none, or another one than was named."""
+    """Refuses a folder whose id is invalid, or another one than was named."""
     if len(found) != 33 or found[32:] != b"\n" or set(found[:32]) - set(b"0123456789abcdef"):
         raise End(65, f"`{it.run}/id`: it is damaged, or was edited; undo the edit, or give up this"
                       " run")
@@ -176,8 +176,8 @@ def check_id(it, found):
 
 
 def check_whole(it, found, reads):
-    """Refuses a folder whose id is none or another one, that was forgotten,
-    or of which a file is missing or empty."""
+    """Refuses a folder whose id is invalid or another one, that was forgotten, or of which a file
+    is missing or empty."""
     check_id(it, found)
     if (not reads and it.command != "answer" and MISTAKE != "forgotten_is_taken"
             and is_there(f"{it.run}/forgotten")):

@@ -1,4 +1,4 @@
-"""What the stand-in prints of a run that is followed: a line of JSON a second, by no lock.
+"""The output of the stand-in for a run that is followed: a line of JSON a second, by no lock.
 
 It reads all files anew for each line. The keys are those of docs/follow.schema.json.
 """
@@ -11,7 +11,7 @@ from stand_files import called
 
 
 def row_of(intent):
-    """The row of an attempt: what its records say, and how it stands."""
+    """Returns the row of an attempt: what its records say, and how it stands."""
     kind = intent.answer[0].decode() if intent.answer else "pending"
     code = int(intent.answer[1]) if kind in ("done", "untouched") else None
     state = intent.state() if intent.closes() else "open"
@@ -20,7 +20,7 @@ def row_of(intent):
 
 
 def line_of(it, ledger, shown):
-    """The line that comes next; `shown` has the rows that were printed before."""
+    """Returns the line that comes next; `shown` has the rows that were printed before."""
     rows = [row_of(intent) for journal in ledger.journals for intent in journal]
     fresh = [row for row in rows if shown.get(tuple(row[:2])) != row]
     shown.update({tuple(row[:2]): row for row in rows})

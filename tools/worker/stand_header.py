@@ -17,7 +17,7 @@ HEAD = b"amo-words 2\nround %d\nboot %s\ngivens %d %d %d\n"
 
 
 def seal_of(it, body: bytes) -> bytes:
-    """The seal of a header with these bytes before it."""
+    """Returns the seal of a header with these bytes before it."""
     return hex_digits(hex_digits(it.run_id + b" record") + body)
 
 
@@ -36,7 +36,7 @@ def check_version(it) -> bool:
 
 
 class Header:
-    """What `record` says; if there is none, that nothing was on the disk."""
+    """The content of `record`. If it is missing, nothing was on the disk."""
 
     def __init__(self, it=None, data: Optional[bytes] = None):
         self.is_there, self.round, self.boot, self.lines = data is not None, 0, None, []
@@ -64,7 +64,7 @@ class Header:
         return fits and self.take_front(texts[:-18]) and self.take_counts(texts[-18:])
 
     def take_front(self, texts: List[bytes]) -> bool:
-        """Takes what is said of the round; whether that can be."""
+        """Takes the lines on the round. Returns whether they are possible."""
         labels = [it.split(b" ") for it in texts[:5]]
         if [it[0] for it in labels] != LABELS:
             return False
@@ -90,13 +90,13 @@ class Header:
         return True
 
     def head(self) -> bytes:
-        """The front of the words of this round."""
+        """Returns the front of the words of this round."""
         text = HEAD % (self.round, self.boot, self.jobs, self.shared, self.beta)
         return text.ljust(511) + b"\n"
 
     def lost(self, name: str, checksums: List[bytes]) -> Optional[str]:
-        """What a file lacks that has appends with these checksums, the first of which stands
-        before the first append; None if it has all that was counted."""
+        """Returns the counted part that a file with these checksums lacks, the first of which
+        stands before the first append. Returns None if it has all of it."""
         count, checksum = self.counts.get(name, (0, checksums[0]))
         if MISTAKE == "counts_are_not_compared":
             return None
@@ -109,7 +109,8 @@ class Header:
         return None
 
     def why_jobs(self, jobs: Optional[bytes]) -> Optional[str]:
-        """Whether `jobs` is missing or damaged, as a word; None if it begins with what it was."""
+        """Returns whether `jobs` is missing or damaged, as a word; None if it begins with what it
+        was."""
         if not self.is_there or not self.digest or MISTAKE == "jobs_are_not_compared":
             return None
         if jobs is None:
@@ -128,18 +129,18 @@ class Header:
 
 
 def digest_of(jobs: bytes) -> bytes:
-    """The SHA-256 of `jobs`, as 64 hex digits."""
+    """Returns the SHA-256 of `jobs`, as 64 hex digits."""
     return hashlib.sha256(jobs).hexdigest().encode()
 
 
 def header_of(it) -> Header:
-    """The header of the run, as it stands there now."""
+    """Returns the header of the run, as it stands there now."""
     return Header(it, content(f"{it.run}/record"))
 
 
 def text_of(it, front: bytes, jobs: bytes, found: Dict[str, Appends]) -> bytes:
-    """The bytes of a header: `front`, how much there is of `jobs`, and how many appends of each
-    file. The last append isn't counted, since a power cut may lose it."""
+    """Returns the bytes of a header: `front`, how much there is of `jobs`, and how many appends of
+    each file. The last append isn't counted, since a power cut may lose it."""
     text = front + b"jobs %d %s\n" % (len(jobs), digest_of(jobs))
     for name in FILES:
         appends = found[name]
@@ -149,8 +150,8 @@ def text_of(it, front: bytes, jobs: bytes, found: Dict[str, Appends]) -> bytes:
 
 
 def read_appends(it) -> Tuple[Header, Dict[str, Appends]]:
-    """The header, and the appends of each file, which are read after it; both once more if there
-    are appends and no header."""
+    """Returns the header, and the appends of each file, which are read after it; both once more if
+    there are appends and no header."""
     for _ in range(2):
         header = Header() if MISTAKE == "header_after_the_journals" else header_of(it)
         found = {name: appends_of(it, header, name) for name in FILES}

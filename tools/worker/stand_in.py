@@ -48,7 +48,7 @@ HELP = "; see amo_worker --help"
 
 
 class Ledger:
-    """What record, answers, journals and jobs say, read in this order."""
+    """The content of record, answers, journals and jobs, read in this order."""
 
     def __init__(self, it):
         run = it.run
@@ -77,7 +77,7 @@ class Ledger:
         return self.journals[worker - 1][serial - 1] if there else None
 
     def kinds(self):
-        """Of each line its kind, and the intent by which it is closed."""
+        """Returns the kind of each line, and the intent by which it is closed."""
         for line in range(1, len(self.lines) + 1):
             closing = sorted(self.closing.get(line, []), key=lambda it: it.state() != "running")
             yield (line, closing[0].state(), closing[0]) if closing else (line, "open", None)
@@ -87,10 +87,9 @@ class Ledger:
 
 
 def final_ledger(it, records=False):
-    """The ledger with the locks of all pending intents that can be got, and the files of those
-    locks; such an intent is final, and is recorded as in doubt if that is asked for and the disk
-    takes it. In a folder of 0.1.0 nothing is written, and a file that is missing is held by
-    nobody."""
+    """Returns the ledger with the locks of all pending intents that can be got, and the files of
+    those locks. These intents are final, and are recorded as in doubt if that is asked for and the
+    disk takes it. In a folder of 0.1.0 nothing is written, and nobody holds a missing file."""
     held, final, unrecorded = [], set(), set()
     for journal in Ledger(it).journals:
         if any(intent.answer is None for intent in journal):
@@ -119,8 +118,8 @@ def final_ledger(it, records=False):
 
 
 def record(file, ended):
-    """Records these intents as in doubt, and removes the locks of their commands, as long as the disk
-    takes that; those that it has not taken."""
+    """Records these intents as in doubt, and removes the locks of their commands, as long as the
+    disk takes that; those that it has not taken."""
     left = list(ended)
     with contextlib.suppress(End):
         while left:
@@ -134,7 +133,8 @@ def record(file, ended):
 
 
 def is_got(path, flags, held):
-    """Whether the lock of this file is got, and held from now on; a missing file counts as got."""
+    """Returns whether the lock of this file is got, and held from now on; a missing file counts as
+    got."""
     try:
         file = opened(path, flags, None)
     except FileNotFoundError:
@@ -164,7 +164,8 @@ def why_refused(line, seen):
 
 
 def jobs_of(jobs, known, is_first):
-    """The jobs' file, without a last line that has no end, and whether there is one; in the first round that is refused."""
+    """Returns the jobs' file, without a last line that has no end, and whether there is one; in the
+    first round that is refused."""
     data = content(jobs)
     if data is None:
         raise failed(74, jobs, FileNotFoundError(errno.ENOENT, os.strerror(errno.ENOENT)))
@@ -200,7 +201,8 @@ def make_whole(run, name, data, is_synced=True):
 
 
 def begin_round(it):
-    """Under the exclusive lock of rounds: header and words of the lines that are open. Ends where none is."""
+    """Under the exclusive lock of rounds: header and words of the lines that are open. Ends where
+    none is."""
     ledger = Ledger(it)
     data, is_begun = jobs_of(it.jobs, ledger.jobs, ledger.jobs is None)
     if data != ledger.jobs:
@@ -252,7 +254,7 @@ class Words:
         return self.load(p, self.n)
 
     def come_back(self):
-        """The jobs of the own row; one that was claimed and isn't filed is filed."""
+        """Returns the jobs of the own row; one that was claimed and isn't filed is filed."""
         row = []
         if MISTAKE == "own_words_forgotten":
             return row
@@ -269,7 +271,7 @@ class Words:
 
 
 def work_in(words, beta, perform):
-    """Works until too few jobs are open, or it is told to leave; whether it was."""
+    """Works until too few jobs are open, or it is asked to leave. Returns whether it was."""
     n, m, p = words.n, words.m, words.seat
     row = words.come_back()
     known, tried, others = set(row), set(), [q for q in range(1, m + 1) if q != p]
@@ -308,7 +310,7 @@ def taken(it):
 
 
 def guard(it):
-    """The journal of this worker, once nobody else has its number."""
+    """Returns the journal of this worker, once nobody else has its number."""
     if MISTAKE == "guard_is_removed":
         path = f"{it.run}/guard.{it.worker}"
         file = opened(path, os.O_RDWR | os.O_CREAT, 73)
@@ -325,8 +327,8 @@ def guard(it):
 
 
 def readers_lock(it):
-    """The lock of answers, once no reader has it: each keeps it as long as it holds locks of
-    workers. A folder of 0.1.0 in which nobody has answered has none."""
+    """Returns the lock of answers, once no reader has it: each keeps it as long as it holds locks
+    of workers. A folder of 0.1.0 in which nobody has answered has none."""
     file = Journal(it, "answers")
     if MISTAKE != "readers_without_a_lock" and file.file is not None:
         called(73, file.path, fcntl.flock, file.file, fcntl.LOCK_EX)
@@ -387,7 +389,8 @@ class Hands:
         self.record, self.words, self.lines = None, None, []
 
     def take_part(self):
-        """Begins or joins a round, and works in it until its part of that is over, if it has one."""
+        """Begins or joins a round, and works in it until its part of that is over, if it has
+        one."""
         lock = self.join()
         if lock is None:
             return
@@ -405,7 +408,8 @@ class Hands:
             os.close(lock)
 
     def join(self):
-        """Begins or joins a round; the handle that has its shared lock, or None if it takes no part."""
+        """Begins or joins a round; the handle that has its shared lock, or None if it takes no
+        part."""
         it = self.it
         record, lock = share_round(it)
         if self.passes_by(record):
@@ -424,7 +428,8 @@ class Hands:
         return lock
 
     def passes_by(self, record):
-        """Whether it takes no part in a round: it has no seat there, or has joined it before."""
+        """Returns whether it takes no part in a round: it has no seat there, or has joined it
+        before."""
         it = self.it
         place = (it.worker - record.first) % record.workers
         has_seat = place < record.shared and it.worker <= record.workers
@@ -435,7 +440,7 @@ class Hands:
         return not has_seat or is_same and MISTAKE != "stays_in_the_former_round"
 
     def come_back(self):
-        """What a worker looks at that has waited between two rounds."""
+        """Looks at the folder again after a wait between two rounds."""
         if MISTAKE != "number_is_not_compared":
             check_whole(self.it, content(f"{self.it.run}/id") or b"", False)
             self.clearance.compare_own()
@@ -496,8 +501,8 @@ def make(it):
 
 
 def enter_folder(it):
-    """Refuses what is no folder of one's own, or lies where none may lie,
-    or is of another version."""
+    """Refuses a folder that isn't the user's own, or lies at a wrong place, or is of another
+    version."""
     found = called(74, it.run, os.lstat, it.run)
     if (found.st_mode & 0o170000) != 0o040000 or found.st_uid != os.geteuid():
         is_folder = (found.st_mode & 0o170000) == 0o040000
@@ -541,7 +546,7 @@ def counts(ledger):
 
 
 def alive(it):
-    """The workers whose journals are locked."""
+    """Yields the workers whose journals are locked."""
     for p in range(1, MOST_WORKERS + 1):
         file = opened_part(it, f"journal.{p}", os.O_RDONLY)
         if file is None:
@@ -647,7 +652,7 @@ def answer(it):
 
 
 def answer_once(it, rows):
-    """Takes the answers; if one is to what still runs, none is taken, and that is said."""
+    """Takes the answers. If one is to a running attempt, none is taken, and it prints a message."""
     file = readers_lock(it)
     file.recover(header_of(it))
     ledger, held = final_ledger(it, records=True)

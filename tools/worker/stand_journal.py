@@ -21,26 +21,26 @@ KEEP = "leave the file as it is, and read docs/JOBS.md, `A journal is refused`"
 
 
 def hex_digits(data: bytes) -> bytes:
-    """The first 8 hex digits of SHA-256."""
+    """Returns the first 8 hex digits of SHA-256."""
     return hashlib.sha256(data).hexdigest()[:8].encode()
 
 
 def first_checksum(it, name: str) -> bytes:
-    """What stands in place of a checksum before the first append of a file."""
+    """Returns the checksum that stands before the first append of a file."""
     if MISTAKE == "checksum_without_the_file":
         return hex_digits(it.run_id)
     return hex_digits(it.run_id + b" " + name.encode())
 
 
 def next_checksum(before: bytes, record: bytes) -> bytes:
-    """The checksum of an append, from that of the append before and its own record."""
+    """Returns the checksum of an append, from that of the append before and its own record."""
     return hex_digits(record if MISTAKE == "checksum_is_not_chained" else before + record)
 
 
 class Appends:
-    """The appends in the bytes of a file: their records, the places where the last one begins and
-    where it ends, the checksums from the one before the first append on, and the rest of the
-    bytes."""
+    """The appends in the bytes of a file: their records, the places of the beginning and the end of
+    the last one, and the rest of the bytes. It also has the checksums, from the one before the
+    first append on."""
 
     def __init__(self, data: bytes, checksum: Optional[bytes]):
         self.records, self.last, self.end, self.checksums = [], None, 0, [checksum]
@@ -49,14 +49,14 @@ class Appends:
         self.rest = data[self.end:]
 
     def next_line(self, data: bytes) -> Optional[bytes]:
-        """The line of the next append, without its commit byte; None unless it is committed and
-        whole."""
+        """Returns the line of the next append, without its commit byte; None unless it is committed
+        and whole."""
         end = data.find(b"\n", self.end)
         commits = b"+-" if MISTAKE == "cut_line_is_kept" else b"+"
         return data[self.end + 1:end] if end >= 0 and data[self.end] in commits else None
 
     def fits(self, line: bytes) -> bool:
-        """Whether the line ends with a blank and its checksum."""
+        """Returns whether the line ends with a blank and its checksum."""
         checksum = next_checksum(self.checksums[-1], line[:-9])
         if MISTAKE == "checksum_is_not_compared":
             checksum = line[-8:]
@@ -97,7 +97,7 @@ class OldAppends(Appends):
 
 
 def appends_in(it, name: str, data: bytes) -> Appends:
-    """The appends in these bytes of a file of the run."""
+    """Returns the appends in these bytes of a file of the run."""
     return OldAppends(data, None) if it.is_old else Appends(data, first_checksum(it, name))
 
 
@@ -111,9 +111,9 @@ def why_refused(it, header, name: str, found: Appends) -> Optional[End]:
 
 
 def appends_of(it, header, name: str, bytes_of=part) -> Appends:
-    """The appends of a file whose lock this process doesn't hold, and that `bytes_of` reads after
-    the header. Beside a writer a read may show bytes that never stood there, so the file is refused
-    only if it shows the same ones again."""
+    """Returns the appends of a file whose lock this process doesn't hold, and that `bytes_of` reads
+    after the header. Beside a writer a read may show bytes that never stood there, so the file is
+    refused only if it shows the same ones again."""
     seen = None
     for _ in range(LOOKS):
         found = appends_in(it, name, bytes_of(it, name))
@@ -144,9 +144,9 @@ class Journal:
         os.close(self.file)
 
     def recover(self, header) -> None:
-        """Has the disk keep what is read, and a closed commit byte behind it; a file that is
-        damaged, or lacks what the header counts, is refused before. It cuts what isn't seen too,
-        since the disk may still have it after a sync that failed. The file is never empty
+        """Has the disk keep the appends, and a closed commit byte after them. A file that is
+        damaged, or lacks counted appends, is refused before. It also cuts bytes that a read doesn't
+        show, since the disk may still have them after a sync that failed. The file is never empty
         meanwhile."""
         LOG.note("before", "recover", self.name)
         try:
@@ -177,7 +177,7 @@ class Journal:
             raise missing(f"{self.it.run}/record")
 
     def settle(self, found: Appends) -> None:
-        """Has the disk keep these appends, and nothing behind them."""
+        """Has the disk keep these appends, and nothing after them."""
         self.end, self.checksum = found.end, found.checksums[-1]
         if MISTAKE == "opens_without_settling":
             return
@@ -225,8 +225,7 @@ class Journal:
                 self.append(self.owed.pop())
 
     def append(self, record: bytes) -> None:
-        """Puts an append behind the last one; it counts once its commit byte is open on the
-        disk."""
+        """Puts an append after the last one. It counts once its commit byte is open on the disk."""
         checksum = next_checksum(self.checksum, record)
         line = record + b" " + checksum + b"\n"
         put_at(self.file, self.path, line + b"-", self.end + 1)

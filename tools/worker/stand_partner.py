@@ -70,7 +70,7 @@ class Partner:
 
 
 def told_to_leave() -> End:
-    """Returns the end of a worker that its runner told to leave."""
+    """Returns the end of a worker whose runner asked it to leave."""
     return End(69, "runner: it told this worker to leave; start the worker again to go on")
 
 
@@ -81,6 +81,6 @@ def is_over(it) -> End:
 
 
 def invalid(said: bytes) -> End:
-    """Returns the end of a worker to which its runner said this."""
+    """Returns the end of a worker whose runner sent this."""
     return End(76, f"runner: its reply `{said.decode(errors='replace')}` is invalid;"
                    " docs/PROCESSES.md lists the replies")

@@ -12,12 +12,12 @@ UNKNOWN = ("no record says when its attempt ended; wait as long as the receiver 
 
 
 def dated(seconds: int) -> str:
-    """A time in seconds since 1970, as a date."""
+    """Returns a time in seconds since 1970, as a date."""
     return formatdate(seconds, usegmt=True)
 
 
 def age_of(ended: int):
-    """How many seconds ago something ended; `unknown`, or `ahead` of the clock."""
+    """Returns how many seconds ago something ended; `unknown`, or `ahead` of the clock."""
     now = int(time.time())
     return "unknown" if not ended else "ahead" if now < ended else now - ended
 

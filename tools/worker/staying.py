@@ -28,7 +28,7 @@ class Held(Runner):
 
 
 def waiting(scene: Scene, worker: int = 1) -> Held:
-    """A worker whose part of a round is over, and that waits for the answer."""
+    """Returns a worker whose part of a round is over, and that waits for the answer."""
     runner = Held(scene, worker)
     serve([runner.start()], until=lambda: runner.overs)
     want(runner.process and runner.overs == 1,
@@ -37,7 +37,7 @@ def waiting(scene: Scene, worker: int = 1) -> Held:
 
 
 def ended(runner: Runner, data: bytes = b"go\n") -> int:
-    """Says this to a worker that waits, and closes its pipe where it waits once more. Returns the
+    """Sends this to a worker that waits, and closes its pipe once it waits again. Returns the
     status with which it ends."""
     before = runner.overs
     runner.tell(data)
@@ -74,7 +74,8 @@ def try_one_process(bench: Bench) -> None:
 
 
 def end_one(bench: Bench, data: bytes, status: int) -> None:
-    """A worker that waits hears this, and then nothing more: it ends so, and has done nothing."""
+    """Sends this to a worker that waits, and then nothing more. It must end so, and have done
+    nothing."""
     scene = bench.scene(9, 2)
     runner = waiting(scene)
     before = folder.contents(scene.run)
@@ -92,7 +93,7 @@ def end_one(bench: Bench, data: bytes, status: int) -> None:
 
 
 def try_ends(bench: Bench) -> str:
-    """a worker that waits is told to leave, or its runner's pipe ends, or it hears something else:
+    """a worker that waits is asked to leave, or its runner's pipe ends, or it gets something else:
     it ends with the status for that, and the next one goes on"""
     rows = [(b"leave\n", LEFT), (b"", LATER), (b"go", LATER), (b"leave", LATER),
             *((it + b"\n", ANSWER) for it in INVALID)]
@@ -153,8 +154,8 @@ def try_no_seat(bench: Bench) -> None:
 
 
 def passed_by(runner: Held) -> None:
-    """A worker that waits is told to go on, and takes no part in the round that it finds: it says
-    `over` again, each time that it is told, and nothing else."""
+    """Has a worker that waits go on, and take no part in the round that it finds. It must print
+    `over` again, each time, and nothing else."""
     lines, effects = list(runner.lines), len(runner.scene.effects())
     for _ in range(3):
         before = runner.overs
@@ -166,8 +167,8 @@ def passed_by(runner: Held) -> None:
 
 
 def try_new_without_seat(bench: Bench) -> None:
-    """a new process that has no seat in the round of others waits too, and takes part in the next
-    round; so does one that has been told to go on"""
+    """a new process that has no part in the round of others waits too, and takes part in the next
+    round; so does one that has gone on"""
     scene = bench.scene(3, 4)
     second = hold(scene, 2)
     first = waiting(scene)
@@ -184,8 +185,8 @@ def try_new_without_seat(bench: Bench) -> None:
 
 
 def try_same_round(bench: Bench) -> None:
-    """a worker is told to go on while another is still in the round: it says `over` again, and
-    begins no other round"""
+    """a worker goes on while another is still in the round: it prints `over` again, and begins no
+    other round"""
     scene = bench.scene(40, 2, beta=4)
     second = hold(scene, 2)
     first = waiting(scene)
@@ -309,7 +310,7 @@ def try_killed_waiting(bench: Bench) -> None:
 
 
 def later_calls(bench: Bench) -> List[list]:
-    """The calls of a life of several rounds from the first `over` on."""
+    """Returns the calls of a life of several rounds from the first `over` on."""
     scene = bench.scene(6, 2)
     scene.logs, runner = True, Runner(scene, 1)
     runner.stays = True

@@ -43,8 +43,8 @@ def spoiling(name, *records):
 
 
 def counting(*more):
-    """Puts a header there as of round 4, which counts these records behind three of journal.1, but
-    for the last of them."""
+    """Puts a header there as of round 4. It counts these records after three of journal.1, but for
+    the last of them."""
 
     def change(scene):
         front = headers.front_of(folder.read(f"{scene.run}/record"))
@@ -105,7 +105,8 @@ def others_at_work(scene):
 
 
 def spoiled(scene):
-    """Its count of claims is none that goes with its row, of three entries: that shows at the 0 behind them."""
+    """Makes its count of claims impossible for its row of three entries, which shows at the 0 after
+    them."""
     others_at_work(scene)
     with open(f"{scene.run}/words", "r+b") as words:
         words.seek(512 + 8 * 2)
@@ -164,9 +165,9 @@ KEEP = "leave the file as it is, and read docs/JOBS.md, `A journal is refused`"
 OTHER_ROUND = ("folder `THE RUN`: the current round cannot be joined; start again when all of its"
                " workers have ended")
 HELP = "; see amo_worker --help"
-# What is changed in a run whose four lines are done, in doubt, untouched and open; the arguments of
-# a command, with `_` for a blank; its status, and its message. If that has three dots, the system's
-# own text stands there.
+# Changes of a run whose four lines are done, in doubt, untouched and open. Each row has a change, the
+# arguments of a command, with `_` for a blank, its status, and its message. Three dots in a message
+# stand for the system's own text.
 FAULTS = [
     (instead(lambda scene: os.symlink("old", scene.run)), "status", DOOR, NO_FOLDER),
     (instead(lambda scene: open(scene.run, "w").close()), "work 1", DOOR, NO_FOLDER),
@@ -285,7 +286,7 @@ def try_lines_of_faults(bench):
 
 
 def try_lines_of_lives(bench):
-    """how a life ends that was told to leave, or is over; an invalid reply is shown if it is
+    """the end of a life that was asked to leave, or is over; an invalid reply is shown if it is
     UTF-8"""
     if bench.is_slow():
         bench.skipped.append("the stand-in has other words for faults")
@@ -323,13 +324,14 @@ def failing_output(scene, words):
 
 
 def ageless(ended):
-    """The end of a call of `doubts`, without the ages of the doubts, which grow."""
+    """Returns the end of a call of `doubts`, without the ages of the doubts, which grow."""
     status, out, err = ended
     return status, re.sub(r'"age":\d+|\b\d+$', "age", out, flags=re.MULTILINE), err
 
 
 def try_outputs(bench):
-    """what a person asks for is written whole, by calls that are cut short or interrupted too, or the fault is told"""
+    """the output of a person's command is written whole, also by calls that are cut short or
+    interrupted, or the fault is reported"""
     if bench.is_slow():
         bench.skipped.append("the stand-in has other words for faults")
         return
@@ -374,12 +376,13 @@ def try_times(bench):
 
 
 def locks_of(scene):
-    """Which of the locks of the doubt are held by somebody."""
+    """Returns which of the locks of the doubt are held by somebody."""
     return [name for name in ("journal.1", "runner.1", "command.1.1", "answers") if not folder.is_free(f"{scene.run}/{name}")]
 
 
 def stopped(bench, words, number, how):
-    """Somebody who asks or answers of a doubt, stopped at this call. With no number: the calls that it makes."""
+    """Somebody who asks or answers of a doubt, stopped at this call. With no number: the calls that
+    it makes."""
     scene = answerable(bench)
     open(f"{scene.run}/command.1.1", "wb").close()
     if not number:
@@ -397,7 +400,8 @@ def stopped(bench, words, number, how):
 
 
 def try_what_is_held(bench):
-    """who looks at a doubt holds its three locks until all is read, and none while it is printed; who answers, until it is put"""
+    """who looks at a doubt holds its three locks until all is read, and none while it is printed;
+    who answers, until it is put"""
     whole = ["journal.1", "runner.1", "command.1.1", "answers"]
     for words in (["status"], ["doubts", "--json"]):
         calls = stopped(bench, words, None, None)
@@ -449,7 +453,8 @@ def try_order_of_reads(bench):
 
 
 def is_cleared(calls):
-    """Whether `answers` and then each other journal is read after an intent was put, and before a line is said."""
+    """Returns whether `answers` and then each other journal is read after an intent was put, and
+    before a line is handed over."""
     end = next((k for k, it in enumerate(calls) if it[2] == "say"), len(calls))
     last = max(k for k, it in enumerate(calls[:end]) if it[2:4] == ["sync", "journal.1"])
     others = {f"journal.{worker}" for worker in range(2, 17)}
@@ -459,7 +464,8 @@ def is_cleared(calls):
 
 
 def try_cut_while_asked(bench):
-    """input that ends while a worker asks what became of an intent: it ends too, and puts nothing"""
+    """input that ends while a worker asks what became of an intent: it ends too, and puts
+    nothing"""
     scene = answerable(bench)
     runner = Runner(scene, 1)
     runner.take = lambda line: runner.lines.append(line) or runner.process.stdin.close()

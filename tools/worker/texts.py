@@ -1,4 +1,5 @@
-"""Files of a run that were cut or changed: each is read as far as it counts, or refused by name and number."""
+"""Files of a run that were cut or changed: each is read as far as it counts, or refused by name and
+number."""
 
 import fcntl
 import os
@@ -62,9 +63,9 @@ def read_as(scene, name, data):
 
 
 def cut_one(scene, name, data, length, works):
-    """Cut at this byte; and, where it is read, the next worker keeps its records, and puts the next
-    behind them. What is cut away was acknowledged, and isn't looked for. At no moment is the file
-    empty."""
+    """Cuts a journal at this byte. If it is read, the next worker keeps its records, and puts the
+    next after them. A record that is cut away was acknowledged, and isn't looked for. The file must
+    never be empty."""
     scene.acknowledged.clear()
     if read_as(scene, name, data[:length]) and works:
         kept = folder.records_in(scene.run, name)
@@ -83,7 +84,7 @@ def cut_one(scene, name, data, length, works):
 
 
 def run_of_all_kinds(bench):
-    """A run with all kinds of records in a journal and in answers."""
+    """Returns a run with all kinds of records in a journal and in answers."""
     scene = prepared(bench, ["done 0", "doubt", "untouched 75", "doubt", "done 3", "unbegun", "dies"], lines=8)
     scene.answer(1, 2, 2, "not-done")
     scene.answer(1, 4, 4, "done")
@@ -91,8 +92,8 @@ def run_of_all_kinds(bench):
 
 
 def try_cut(bench):
-    """journal and answers cut at each byte: refused by the number of the append; cut behind one
-    they are read, and a worker goes on"""
+    """journal and answers cut at each byte: refused by the number of the append; cut after one they
+    are read, and a worker goes on"""
     count = 0
     for name in ("journal.1", "answers"):
         scene = run_of_all_kinds(bench)
@@ -118,8 +119,8 @@ def try_changed(bench):
 
 
 def torn_ends(line: bytes) -> list:
-    """What a crash may leave behind the last append while this line is put, and the most that may
-    stand there."""
+    """Returns the bytes that a crash may leave after the last append while this line is put, and
+    the most that may stand there."""
     torn = bytes(it if k % 3 else 0 for k, it in enumerate(line))
     parts = [line, line + b"-", line + b"\0", line[:-1], line[:5], torn,
              torn.replace(b"\n", b"\0"), bytes(1024), b"+" * 1024, bytes(1023) + b"\n",
@@ -162,7 +163,8 @@ def try_records_of_an_append(bench):
 
 
 def change_one(bench, name, at, byte):
-    """One byte of record, words or jobs is changed or cut away: a round is begun, or the fault is named; none is done twice."""
+    """One byte of record, words or jobs is changed or cut away: a round is begun, or the fault is
+    named; none is done twice."""
     scene = bench.scene(6, 2)
     runner = Says(scene, 1, ["done 0", "doubt", "done 0"])
     live(runner)
@@ -183,7 +185,8 @@ def change_one(bench, name, at, byte):
 
 
 def try_record_words_jobs(bench):
-    """each byte of record, words and jobs changed or cut away: a new round or a named fault, and no line is performed twice"""
+    """each byte of record, words and jobs changed or cut away: a new round or a named fault, and no
+    line is performed twice"""
     scene = bench.scene(6, 2)
     runner = Says(scene, 1, ["done 0", "doubt", "done 0"])
     live(runner)
@@ -196,7 +199,8 @@ def try_record_words_jobs(bench):
 
 
 def share_one(bench, name, change):
-    """Somebody else keeps the round: then record and words that don't fit are left alone, until later."""
+    """Somebody else keeps the round: then record and words that don't fit are left alone, until
+    later."""
     scene = bench.scene(6, 2)
     runner = Says(scene, 1, ["done 0", "done 0"])
     live(runner)
@@ -220,7 +224,8 @@ def share_one(bench, name, change):
 
 
 def try_of_another(bench):
-    """record or words of another boot, round or givens, cut or missing, while others are at work: nobody goes on with them"""
+    """record or words of another boot, round or givens, cut or missing, while others are at work:
+    nobody goes on with them"""
     swaps = [(b"round 1", b"round 2"), (b"boot 0", b"boot 1"), (b"givens 6 2 2", b"givens 6 2 3"), (b"givens 6", b"givens 5")]
     changes = [(name, lambda data, swap=swap: data.replace(*swap, 1)) for name in ("record", "words") for swap in swaps]
     changes += [("words", lambda data, it=it: data[:it]) for it in (-1, 512, 0)] + [("record", None), ("words", None)]

@@ -1,4 +1,4 @@
--- What a line asks for, from what `clap` says of it.
+-- The request of a line, from the matches that `clap` returns.
 use Rattle.std.proofs.Common.{◌≡◌, true, List, [], ◌∷◌, Option, Some, None, option_map, refl, sym, ap, subst, ◌∙◌}
 use Rattle.clap.specs.Words.{App, Row, Text, is_simple, is_simple_and_free, subcommand_of, subcommand_rows_of, subcommand_name_of, fault_of, HasMatchesOf, Kinds, IsAmong}
 use Rattle.clap.specs.declared.ArgMatches.{ArgMatches}
@@ -42,7 +42,7 @@ no_faults a line e h = ap (λ (b : App). fault_of b line) (sym e) ∙ h (ap is_s
 pub found_is_ours : (a : App) (line : List Text) (m : ArgMatches) → a ≡ amo_app → HasMatchesOf a line m → subcommand_rows_of m ≡ subcommand_of amo_app line
 found_is_ours a line m e h = (h (ap is_simple e ∙ amo_is_simple)).1 ∙ ap (λ (b : App). subcommand_of b line) e
 
--- ---- what the line asks for, where it is taken and where it is refused
+-- ---- the request of a line that is taken, and of one that is refused
 
 pub asks_row : (line : List Text) (name : Text) (rows : List Row) → fault_of amo_app line ≡ [] → subcommand_of amo_app line ≡ Some (name, rows)
     → request_of_line line ≡ request_of_row name rows

@@ -43,7 +43,7 @@ wanting_subcommand a = record a { top = record a.top { subcommand_required = tru
 abbrev pub amo_app : App
 amo_app = with_subcommand (with_subcommand (with_subcommand (with_subcommand (with_subcommand (wanting_subcommand (new_app (codes "amo"))) replay_app.top) check_app.top) run_app.top) explore_app.top) stops_app.top
 
--- the number of the text at this id, where it is one and is within this range
+-- the number of the text at this id, if it is a number within this range
 abbrev pub number_at : ℕ → ℕ → Text → List Row → Option ℕ
 number_at low high id rows = within low high (option_and_then number_in (first_of id rows))
 
@@ -70,7 +70,7 @@ request_of_row name rows =
     else (if bytes_eq name (codes "stops") then stops_of_rows rows
     else None))))
 
--- this, where there are no faults
+-- this, if there are no faults
 abbrev pub unless_any : {A B : Type 0} → List A → Option B → Option B
 unless_any [] answer = answer
 unless_any (fault ∷ more) answer = None
@@ -80,7 +80,7 @@ unless_any (fault ∷ more) answer = None
 unfoldable pub request_of_line : List Text → Option Request
 request_of_line line = unless_any (fault_of amo_app line) (option_and_then (λ row. request_of_row row.0 row.1) (subcommand_of amo_app line))
 
--- what the words after the program's name ask for, or None where they are no command
+-- the request of the words after the program's name, or None if they are no command
 abbrev pub asked : List Text → Option Request
 asked words = request_of_line (codes "amo" ∷ words)
 

@@ -15,7 +15,7 @@ use clap::error::ErrorKind;
 use clap::{Arg, ArgMatches, Command};
 use std::alloc::{AllocError, Global};
 
-/// A text that has to be given.
+/// Returns a text that has to be given.
 fn required(alloc: Global, id: &str) -> Arg<'_>
     ensures rule { rule_of result ≡ required id.entry.now }
     ensures local { result.global ≡ false }
@@ -23,7 +23,7 @@ fn required(alloc: Global, id: &str) -> Arg<'_>
     Arg::new(alloc, id).required(true)
 }
 
-/// The command with a subcommand of this name, which takes nothing.
+/// Returns the command with a subcommand of this name, which takes nothing.
 fn with_bare<'a>(
     alloc: Global,
     parent: Command<'a>,
@@ -34,7 +34,7 @@ fn with_bare<'a>(
     parent.subcommand(Command::new(alloc, name))
 }
 
-/// The command with the subcommand `explore`, which takes three texts.
+/// Returns the command with the subcommand `explore`, which takes three texts.
 fn with_explore<'a>(alloc: Global, parent: Command<'a>) -> Result<Command<'a>, AllocError>
     ensures { IfOk result (λ c. app_of c ≡ with_subcommand (app_of parent.entry) explore_app.top) }
 {
@@ -45,7 +45,7 @@ fn with_explore<'a>(alloc: Global, parent: Command<'a>) -> Result<Command<'a>, A
     parent.subcommand(explore)
 }
 
-/// The command with the subcommand `stops`, which takes one text.
+/// Returns the command with the subcommand `stops`, which takes one text.
 fn with_stops<'a>(alloc: Global, parent: Command<'a>) -> Result<Command<'a>, AllocError>
     ensures { IfOk result (λ c. app_of c ≡ with_subcommand (app_of parent.entry) stops_app.top) }
 {
@@ -53,7 +53,7 @@ fn with_stops<'a>(alloc: Global, parent: Command<'a>) -> Result<Command<'a>, All
     parent.subcommand(stops)
 }
 
-/// The program's command, with a subcommand for each request.
+/// Returns the program's command, with a subcommand for each request.
 fn amo_command<'a>(alloc: Global) -> Result<Command<'a>, AllocError>
     ensures { IfOk result (λ c. app_of c ≡ amo_app) }
 {
@@ -65,15 +65,15 @@ fn amo_command<'a>(alloc: Global) -> Result<Command<'a>, AllocError>
     with_stops(alloc, command)
 }
 
-/// The text at an id.
+/// Returns the text at an id.
 fn text_at<'a>(id: &str, matches: &ArgMatches<'a>) -> Option<&'a str>
     ensures { option_copied result ≡ first_of id.now (rows_of (found_of matches.now)) }
 {
     matches.get_str(id)
 }
 
-/// The number at an id: the number whose decimal digits the text there is, where there is one
-/// within the range.
+/// Returns the number at an id: the number of the decimal digits of the text there, if it is within
+/// the range.
 #[tactic(auto, using(crate::proofs::Numbers::at_is_decimal))]
 fn number_at(low: u64, high: u64, id: &str, matches: &ArgMatches<'_>) -> Option<u64>
     requires { high ≤ HIGHEST_NUMBER }
@@ -84,7 +84,7 @@ fn number_at(low: u64, high: u64, id: &str, matches: &ArgMatches<'_>) -> Option<
     number_within(low, high, text_at(id, matches)?.as_bytes())
 }
 
-/// What the texts of `explore` ask for.
+/// Returns the request of the texts of `explore`.
 #[tactic(auto, unfolding(crate::specs::Commands::explore_of_rows))]
 fn explore_of_matches(matches: &ArgMatches<'_>) -> Option<Request>
     ensures request { result ≡ explore_of_rows (rows_of (found_of matches.now)) }
@@ -96,7 +96,7 @@ fn explore_of_matches(matches: &ArgMatches<'_>) -> Option<Request>
     Some(Request::Write(Wanted::Explored { from, count, turns }))
 }
 
-/// What the text of `stops` asks for.
+/// Returns the request of the text of `stops`.
 fn stops_of_matches(matches: &ArgMatches<'_>) -> Option<Request>
     ensures request { result ≡ stops_of_rows (rows_of (found_of matches.now)) }
     ensures ranges { IfSome result IsWithinRanges }
@@ -105,7 +105,7 @@ fn stops_of_matches(matches: &ArgMatches<'_>) -> Option<Request>
     Some(Request::Write(Wanted::Stops { worker }))
 }
 
-/// What the subcommand of this name asks for.
+/// Returns the request of the subcommand with this name.
 #[tactic(auto, unfolding(crate::specs::Commands::request_of_row))]
 fn request_of_row(name: &str, matches: &ArgMatches<'_>) -> Option<Request>
     ensures request { result ≡ request_of_row name.now (rows_of (found_of matches.now)) }
@@ -121,7 +121,7 @@ fn request_of_row(name: &str, matches: &ArgMatches<'_>) -> Option<Request>
     }
 }
 
-/// What a whole line asks for, the program's name among its words.
+/// Returns the request of a whole line, the program's name among its words.
 fn request_of_line(alloc: Global, line: &[&str]) -> Result<Request, Fault>
     ensures request { IsAsked (request_of_line (map (λ w. w.now) line.now)) result }
     ensures ranges { IfOk result IsWithinRanges }
@@ -140,7 +140,7 @@ fn request_of_line(alloc: Global, line: &[&str]) -> Result<Request, Fault>
     }
 }
 
-/// The whole line: the program's name, and the words after it.
+/// Returns the whole line: the program's name, and the words after it.
 fn whole_line<'a>(alloc: Global, words: &[&'a str]) -> Result<Vec<&'a str>, AllocError>
     ensures { IfOk result (λ line. map (λ w. w.now) line.items ≡ codes "amo" ∷ map (λ w. w.now) words.now) }
 {
@@ -150,8 +150,11 @@ fn whole_line<'a>(alloc: Global, words: &[&'a str]) -> Result<Vec<&'a str>, Allo
     Ok(line)
 }
 
-/// What the words after the program's name ask for. `NoCommand` comes only where they are no
-/// command, and `NoMemory` only where memory was refused.
+/// Returns the request of the words after the program's name.
+///
+/// # Errors
+///
+/// `NoCommand` if the words are no command. `NoMemory` if memory was refused.
 pub fn asked(alloc: Global, words: &[&str]) -> Result<Request, Fault>
     ensures request { IsAsked (asked (map (λ w. w.now) words.now)) result }
     ensures ranges { IfOk result IsWithinRanges }

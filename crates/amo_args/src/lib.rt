@@ -1,5 +1,6 @@
-//! What the words of a command line ask of the program `amo`, by the meaning that `clap` gives
-//! them.
+//! The requests of a command line of the program `amo`, as `clap` reads it.
+//!
+//! Start at [`asked`], which returns the request of the words.
 #![tactic(auto)]
 
 mod commands;

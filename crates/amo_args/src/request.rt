@@ -1,12 +1,12 @@
-//! What the words of a command line can ask for.
+//! The requests of a command line.
 
 use amo_report::Wanted;
 
-/// What a command asks for, of the plan that is read.
+/// The request of a command, on the plan that is read.
 #[derive(Clone, Copy, Debug, PartialEq, Eq)]
 pub enum Request {
-    /// To write this text of it.
+    /// Write this text of the plan.
     Write(Wanted),
-    /// To execute its jobs in threads, and to write what came of them.
+    /// Execute its jobs in threads, and write what became of them.
     Run,
 }

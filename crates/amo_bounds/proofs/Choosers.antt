@@ -1,4 +1,5 @@
--- Whoever announces x in a circle, where nobody announces a job below it, has chosen it there; and it is one worker alone.
+-- In a circle, a job that is announced while no job below it is announced was chosen in that
+-- circle, by one worker alone.
 use Rattle.std.proofs.Common.{◌≡◌, ⊎_elim, ℕ, zero, suc, ◌<◌, ◌≤◌, Bool, true, false, not, ◌&&◌, List, length, get_or, refl, sym, ap, ◌∙◌, subst, arith}
 use Rattle.std.proofs.lemmas.Bool.{cases_eq, cases_lt, true≢false}
 use Rattle.amo_sets.specs.Lists.{numbered}

@@ -1,4 +1,5 @@
--- A circle: workers that come back to where they were, again and again. In it nobody claims, performs or learns.
+-- A circle: moves of workers that come back to the same state, again and again. In a circle nobody
+-- claims, performs or learns.
 use Rattle.std.proofs.Common.{◌≡◌, ◌⊎◌, inl, inr, ⊎_elim, ℕ, zero, suc, ◌+◌, ◌<◌, ◌≤◌, true, List, [], ◌∷◌, ◌++◌, length, refl, sym, ap, ◌∙◌, subst, arith}
 use Rattle.std.proofs.lemmas.Bool.{cases_eq}
 use Rattle.std.proofs.lemmas.List.{length_push}

@@ -1,4 +1,5 @@
--- Whoever is gone was halted, has left or has ended; so where nobody leaves and fewer are halted than there are, one has ended.
+-- A worker that is gone was halted, has left or has ended. So if nobody leaves and fewer are halted
+-- than there are, one has ended.
 use Rattle.std.proofs.Common.{◌≡◌, ◌≢◌, ⊎_elim, ℕ, zero, suc, ◌+◌, ◌<◌, ◌≤◌, Bool, true, false, List, [], ◌∷◌, ◌++◌, refl, sym, ap, ◌∙◌, subst, arith}
 use Rattle.std.specs.Prelude.{if◌then◌else◌}
 use Rattle.std.proofs.lemmas.Bool.{cases_eq, or_parts, eqb-false}

@@ -1,4 +1,5 @@
--- What makes the potential fall: no more fails and fewer turns left, or fewer fails and at most one attempt more.
+-- The potential falls in two cases: no more fails and fewer turns left, or fewer fails and at most
+-- one attempt more.
 use Rattle.std.proofs.Common.{◌≡◌, ◌⊎◌, inl, inr, ⊎_elim, ℕ, suc, ◌+◌, ◌-◌, ◌*◌, ◌<◌, ◌≤◌, Bool, true, false, not, length, refl, sym, ap, ◌∙◌, subst, arith}
 use Rattle.std.proofs.lemmas.Bool.{cases_eq, true≢false}
 use Rattle.amo_sets.specs.Lists.{numbered}
@@ -30,7 +31,7 @@ Fallen g at now h = (n : HasPotential g now) × (weight g now n < weight g at h)
 abbrev pub Room : Givens → (ℕ → Bool) → Type 0
 Room g free = (width g ≤ g.beta) ⊎ (width g ≤ count g.jobs free)
 
--- a turn of p is taken where all are lawful, have a potential, and there is room
+-- a turn of p in a world in which all workers are lawful, have a potential, and have room
 pub record IsTaken (g : Givens) (at now : ℕ → Process) (p : ℕ) : Type 0 where
   pub law : AreLawful g at
   pub turn : IsTurnOf g at now p

@@ -1,4 +1,5 @@
--- As long as no job is done each worker is in its first attempt, or has left; so where one has ended some job is done.
+-- As long as no job is done each worker is in its first attempt, or has left. So once a worker has
+-- ended, some job is done.
 use Rattle.std.proofs.Common.{◌≡◌, ◌≢◌, ◌⊎◌, inl, inr, ⊎_elim, ℕ, ◌<◌, ◌≤◌, Bool, true, false, List, [], ◌∷◌, ◌++◌, length, refl, sym, ap, ◌∙◌, subst, arith}
 use Rattle.std.specs.Prelude.{if◌then◌else◌}
 use Rattle.std.proofs.lemmas.List.{length_push}
@@ -89,7 +90,7 @@ module _ (g : Givens) (many : g.beta ≤ g.jobs) where
       (λ n. subst (λ x. P q x) (sym (numbered-put_other nobody a w.processes p q n)) was)
       (cases_eq q p)
 
-  -- a turn of p, where all are in their first attempts
+  -- a turn of p while all workers are in their first attempts
   module _ (w : World) (law : IsLawful g w) (all : AllFirst w) (p : ℕ) (o : IsWorker g p) (here : (process w p).gone ≡ false) where
     abbrev r : Record
     r = (view w p).local
@@ -229,7 +230,7 @@ module _ (g : Givens) (many : g.beta ≤ g.jobs) where
       at : (q : ℕ) → IsWorker g q → process (opening_world g) q ≡ first_process g q
       at q wq = numbered-table nobody (first_process g) g.workers q wq.low wq.high
 
-  -- where one has ended, some job is done
+  -- some job is done once a worker has ended
   pub some_done : (ms : List Move) (p : ℕ) → IsWorker g p → is_over (process (world_of g ms) p).local.phase ≡ true → 1 ≤ jobs_done g ms
   some_done ms p o over = ⊎_elim (λ s. s) (λ (all : AllFirst (world_of g ms)). absurd (go (process (world_of g ms) p).local.phase over (all.local p o).phase)) (moves_some (opening_world g) ms (opening_lawful g g.limits) opening_some)
     where

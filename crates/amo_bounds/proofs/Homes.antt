@@ -1,4 +1,5 @@
--- Where many jobs are free, each worker that knows what is done chooses in a stretch of its own: its home.
+-- If many jobs are free, each worker that knows the done jobs chooses in a stretch of its own: its
+-- home.
 use Rattle.std.proofs.Common.{◌≡◌, ◌⊎◌, ⊎_elim, ℕ, ◌+◌, ◌-◌, ◌*◌, ◌/◌, ◌<◌, ◌≤◌, Bool, true, false, not, length, refl, sym, ap, ◌∙◌, arith}
 use Rattle.std.specs.Prelude.{nat_le, if◌then◌else◌}
 use Rattle.std.proofs.lemmas.Bool.{cases_lt, leb-false}

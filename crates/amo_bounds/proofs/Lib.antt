@@ -1,4 +1,4 @@
--- What a turn does:
+-- Turns:
 mod Turns
 mod Histories
 mod Still

@@ -1,5 +1,5 @@
--- Worker 1 beside others that announced their first choices and were halted: while it goes on it performs a job in each attempt,
--- and it ends where as many are done as must be.
+-- Worker 1 alone, after the others announced their first choices and were halted. While it goes on
+-- it performs a job in each attempt. It ends once the fewest jobs are done.
 use Rattle.std.proofs.Common.{◌≡◌, ◌≢◌, ⊎_elim, ℕ, zero, suc, ◌+◌, ◌-◌, ◌<◌, ◌≤◌, Bool, true, false, not, ◌&&◌, List, [], ◌∷◌, ◌++◌, length, refl, sym, ap, ◌∙◌, subst, arith, length-append}
 use Rattle.std.specs.Prelude.{if◌then◌else◌, ◌==◌}
 use Rattle.std.proofs.lemmas.Bool.{cases_eq, cases_lt, true≢false, false_from_ne_true, le-ltb}
@@ -309,7 +309,7 @@ module _ (g : Givens) (enough : g.beta ≤ g.jobs) where
           (λ many e. ap (λ y. record (empty_record g) { phase = y }) e)
           (first_choice g 1 o enough)
 
-  -- and where it is gone, no more are done than must be
+  -- and once it is gone, no more jobs are done than the fewest
   pub ends_with_the_fewest : (w : World) → IsRunning w → (process w 1).gone ≡ true → length (done_jobs w.history) ≡ fewest g
   ends_with_the_fewest w run gone = run.counts ∙ last (process w 1).local.phase (view w 1).local (sym run.gone ∙ gone) run.good.at
     where

@@ -109,7 +109,7 @@ module _ (g : Givens) (enough : g.beta ≤ g.jobs) where
         (λ j is e. goes_on (Claiming j) (Holding j) is (ap turns_left e) (omega arith))
         (λ j is e. performs j is e)
 
-  -- where no turns are left it has ended
+  -- it has ended if no turns are left
   none_left : (phase : Phase) (r : Record) → AtPhase g enough r phase → to_end phase (length r.dones) ≡ 0 → is_over phase ≡ true
   none_left Over r at e = refl
   none_left Left r at e = absurd at

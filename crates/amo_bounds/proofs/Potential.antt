@@ -36,7 +36,7 @@ cost g p r = togo g p r.phase + unread g r
 abbrev pub HasRead : Givens → (ℕ → Process) → ℕ → Record → ℕ → Type 0
 HasRead g at p r q = (o : ℕ) → IsOther g p o → o < q → length (at o).local.dones ≤ numbered 0 r.fronts o
 
--- the attempt on j passes, where it is at home and was not seen
+-- the attempt on j passes, if it is at home and was not seen
 abbrev pub Passes : Givens → (ℕ → Bool) → ℕ → Record → ℕ → Type 0
 Passes g free p r j = IsHome g free p j × (has r.tried j ≡ false)
 
@@ -64,7 +64,8 @@ Cleared r q v = ClearedIn r q v r.phase
 abbrev pub Charge : Givens → (ℕ → Process) → (ℕ → Bool) → ℕ → ℕ → Type 0
 Charge g at free q k = (1 ≤ k) ⊎ ((o : ℕ) → IsWorker g o → o ≢ q → IsHome g free o (at q).next → Cleared (at o).local q (at q).next)
 
--- what is free, and how often each worker may still fail before the next done, by itself and by its announcement
+-- by what is free, and how often each worker may still fail before the next done, by its own step
+-- and by its announcement
 pub record HasPotential (g : Givens) (at : ℕ → Process) : Type 0 where
   pub free : ℕ → Bool
   pub done : (j : ℕ) → IsJob g j → free j ≡ false → IsDone g at j

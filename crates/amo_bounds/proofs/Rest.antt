@@ -33,7 +33,7 @@ codes_length g w (m ∷ ms) = go (is_taken w m) (codes_length g (world_after_mov
     go true e = omega arith
     go false e = omega arith
 
--- where a code is found: after some moves, in a lawful world with that code
+-- a world in which a code is found: it is lawful, moves lead to it, and its code is k
 record IsFound (g : Givens) (w : World) (k : ℕ) : Type 0 where
   moves : List Move
   law : IsLawful g (world_after_moves g w moves)

@@ -32,7 +32,7 @@ use Rattle.amo_bounds.proofs.Turns.{next_after, after_turn}
 abbrev pub still : Record → Record
 still r = record r { steps = 0 }
 
--- what is loaded where the workers are so
+-- the value that is loaded if the workers are so
 abbrev pub heard : (ℕ → Process) → Want → ℕ
 heard at (LoadNext q) = (at q).next
 heard at (LoadDone q k) = numbered 0 (at q).row k

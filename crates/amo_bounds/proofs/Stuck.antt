@@ -31,7 +31,7 @@ use Rattle.amo_bounds.specs.Worst.{stuck_moves}
 use Rattle.amo_bounds.proofs.Turns.{next_after, IsAfterTurn, after_turn}
 use Rattle.amo_bounds.proofs.Ended.{stopped-append, leavers-append}
 
--- the first choice of worker q, where there are at least beta jobs
+-- the first choice of worker q, if there are at least beta jobs
 abbrev pub first : Givens → ℕ → ℕ
 first g q = chosen_rank g q g.jobs
 

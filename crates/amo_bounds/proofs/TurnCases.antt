@@ -1,4 +1,4 @@
--- What a turn can be: nine cases, each with the record that it leaves.
+-- The nine cases of a turn, each with the record that it leaves.
 use Rattle.std.proofs.Common.{◌≡◌, ⊎_elim, ℕ, ◌+◌, ◌<◌, ◌≤◌, Bool, [], ◌∷◌, ◌++◌, length, get_or, refl, sym, ap, ◌∙◌, arith, ◌≢◌}
 use Rattle.std.specs.Prelude.{if◌then◌else◌}
 use Rattle.std.proofs.lemmas.List.{get_or_past}
@@ -38,7 +38,7 @@ module _ (g : Givens) (at now : ℕ → Process) (p : ℕ) (law : AreLawful g at
   read_is j q is other =
       ap (λ phase. heard at (want_in r phase)) is ∙ numbered_next 0 (at q).row (numbered 0 r.fronts q) ∙ (law.sound q other.worker).row (numbered 0 r.fronts q)
 
-  -- so where it reads a zero it has read all
+  -- a worker that reads a zero there has read all
   all_read : (j q : ℕ) → r.phase ≡ Reading j q → IsOther g p q → v ≡ 0 → length (at q).local.dones ≤ numbered 0 r.fronts q
   all_read j q is other none = ⊎_elim
       (λ (l : front < length (at q).local.dones).

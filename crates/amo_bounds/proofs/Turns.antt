@@ -1,4 +1,4 @@
--- What a turn leaves: the worker's next record and its words; the others stay.
+-- The effect of a turn: the worker's next record and its words. The others stay.
 use Rattle.std.proofs.Common.{◌≡◌, ◌≢◌, ℕ, Bool, true, false, [], ◌∷◌, ◌++◌, refl, ap, ◌∙◌, not, ◌&&◌}
 use Rattle.std.specs.Prelude.{if◌then◌else◌}
 use Rattle.amo_sets.specs.Sets.{has}

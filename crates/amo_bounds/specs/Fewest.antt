@@ -1,4 +1,4 @@
--- How few jobs may be done where a worker has ended, and over which moves that is the least.
+-- How few jobs may be done once a worker has ended, and over which moves that is the least.
 use Rattle.std.specs.Prelude.{◌≡◌, ℕ, ◌<◌, ◌≤◌, true, false, List, [], ◌∷◌, length, nat_lt, ◌==◌, if◌then◌else◌}
 use Rattle.amo_sets.specs.Sets.{has}
 use Rattle.amo_givens.specs.Givens.{bound, IsWorker}
@@ -9,7 +9,8 @@ use Rattle.amo_givens.specs.declared.givens.Givens.{Givens}
 use Rattle.amo_givens.specs.declared.moves.Move.{Move}
 use Rattle.amo_givens.specs.declared.moves.Move.TheVariants.{Halt, Leave}
 
--- none where there are fewer jobs than the threshold, so that all are over from birth; else the bound, but at least one
+-- none if there are fewer jobs than the threshold, since all are over from birth; else the bound,
+-- but at least one
 abbrev pub fewest : Givens → ℕ
 fewest g = if nat_lt g.jobs g.beta then 0 else (if bound g == 0 then 1 else bound g)
 
@@ -29,13 +30,14 @@ leavers [] = []
 leavers (Leave p ∷ ms) = p ∷ leavers ms
 leavers (m ∷ ms) = leavers ms
 
--- The moves are turns and fewer halts than there are workers, and after them all workers are gone.
+-- The moves are turns and fewer halts than there are workers. After them all workers are gone.
 pub record ComesToEnd (g : Givens) (ms : List Move) : Type 0 where
   pub none_leaves : leavers ms ≡ []
   pub few_stops : length (stopped ms) < g.workers
   pub gone : (p : ℕ) → IsWorker g p → (process (world_of g ms) p).gone ≡ true
 
--- The moves come to an end, each worker that wasn't halted has ended, and no more jobs are done than the fewest.
+-- The moves come to an end, each worker that wasn't halted has ended, and no more jobs are done
+-- than the fewest.
 pub record IsWorst (g : Givens) (ms : List Move) : Type 0 where
   pub comes_to_end : ComesToEnd g ms
   pub ended : (p : ℕ) → IsWorker g p → has (stopped ms) p ≡ false → is_over (process (world_of g ms) p).local.phase ≡ true

@@ -1,8 +1,9 @@
--- How many turns are taken at most, where many jobs are free or the threshold is high.
+-- How many turns are taken at most, if many jobs are free or the threshold is high.
 use Rattle.std.specs.Prelude.{ℕ, ◌+◌, ◌-◌, ◌*◌}
 use Rattle.amo_givens.specs.declared.givens.Givens.{Givens}
 
--- where so many jobs are free, no two workers that know what is done choose near each other: m m + m - 1, for m workers
+-- if so many jobs are free, no two workers that know the done jobs choose near each other: m m + m
+-- - 1, for m workers
 abbrev pub width : Givens → ℕ
 width g = g.workers * g.workers + g.workers - 1
 

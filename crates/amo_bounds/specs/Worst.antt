@@ -10,11 +10,12 @@ abbrev pub stuck_moves : ℕ → List Move
 stuck_moves zero = []
 stuck_moves (suc k) = stuck_moves k ++ Turn (k + 2) ∷ Halt (k + 2) ∷ []
 
--- so many turns worker 1 takes beside them until it ends: for each of the fewest jobs it announces, reads the announcements and
--- the rows of m - 1 others, claims and performs
+-- how many turns worker 1 then takes until it ends: for each of the fewest jobs it announces, reads
+-- the announcements and the rows of m - 1 others, claims and performs
 abbrev pub lone_turns : Givens → ℕ
 lone_turns g = fewest g * (2 * g.workers + 1)
 
--- all others announce their first choices and are halted, and worker 1 goes on alone; none, where all are over from birth
+-- all others announce their first choices and are halted, and worker 1 goes on alone; no move if
+-- all are over from birth
 abbrev pub worst_moves : Givens → List Move
 worst_moves g = if nat_lt g.jobs g.beta then [] else stuck_moves (g.workers - 1) ++ replicate (lone_turns g) (Turn 1)

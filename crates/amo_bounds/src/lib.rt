@@ -1,6 +1,14 @@
-//! What the algorithm KK-beta comes to, whoever takes turns and whoever is halted: how few jobs may
-//! be done where a worker has ended, and that everyone comes to rest. Nothing here runs; the
-//! theorems stand in the module `laws`.
+//! Bounds of the algorithm KK-beta: how few jobs are done once a worker has ended, and how many
+//! turns are taken until everyone rests.
+//!
+//! Nothing here runs. The theorems stand in the module [`laws`]; start at `everyone_rests`. They
+//! hold for every order of turns and whoever is halted.
+//!
+//! | here | in the glossary |
+//! |---|---|
+//! | n, m | the numbers of jobs and workers |
+//! | p, q | a worker, another worker |
+//! | j | a job |
 #![tactic(auto)]
 
 pub mod laws;

@@ -1,4 +1,4 @@
-//! Why a command ends early.
+//! The ends of a command before its work is done.
 use amo_run_dir::Fault;
 use std::alloc::AllocError;
 use std::io;

@@ -1,4 +1,5 @@
--- A fault is told by its line and its status, and how a program ends by the fault that came and what was told of it.
+-- The report of a fault by its line and its status, and the end of a program by its fault and that
+-- report.
 use Rattle.std.proofs.Common.{◌≡◌, inl, inr, ℕ, Bool, List, Option, Some, Err, refl, sym, subst}
 use Rattle.std.specs.Io.KnownBytes.{Keeps}
 use Rattle.amo_plan.specs.declared.fault.PlanFault.{PlanFault}
@@ -15,7 +16,7 @@ told_itself : (fault : Fault) (err : Change) (status : ℕ) → Tells fault err 
 told_itself (Plan f) err status h = inl h
 told_itself fault err status h = h
 
--- a fault was told where its line was given and its status is answered
+-- a fault is reported if its line was given and its status is returned
 pub told : (given fault : Fault) (err : Change) (status : ℕ) → given ≡ fault → Says err (line_of fault) → status ≡ status_of fault → IsTold given err status
 told given fault err status e line same = subst (λ f. IsTold f err status) (sym e) (told_itself fault err status (line, same))
 
@@ -36,7 +37,8 @@ module _ {C : Type 0} (refuses : C → ReplayFault → Left) (others : C → Lef
   of_text keeps reader out command replay.NoMemory left source sink = record { left = keeps command _ _ _ left; source = source; sink = sink }
 
 module _ {C : Type 0} (writes : C → Left) (refuses : C → ReplayFault → Left) (others : C → Left) (wanted : Option C) (reader out : Change) where
-  -- the fault that came, and what was told: where the line of a plan's fault found no memory, that was told
+  -- the fault that came, and the one that was reported: if the line of a plan's fault found no
+  -- memory, out of memory was reported
   pub ends_by : ((c : C) (f : PlanFault) (known old new : Option (List ℕ)) → refuses c (replay.Plan f) known old new → Keeps old new)
       → (fault : Fault) (waits : Bool) (err : Change) (status : ℕ) → IsFault refuses others fault wanted reader out → IsPassedOn fault waits → IsTold fault err status
       → Ends writes refuses others wanted reader out waits err status

@@ -1,4 +1,4 @@
--- What becomes of a stream, and what is told of a fault.
+-- The change of a stream, and the report of a fault.
 use Rattle.std.specs.Prelude.{◌≡◌, ◌⊎◌, ℕ, List, Bool, false, Option}
 use Rattle.std.specs.Io.KnownBytes.{Keeps, Appends}
 use Rattle.amo_io.specs.Streams.{AppendsFront}
@@ -6,8 +6,8 @@ use Rattle.amo_cli.specs.declared.fault.Fault.{Fault}
 use Rattle.amo_cli.specs.declared.fault.Fault.TheVariants.{Plan, NoMemory}
 use Rattle.amo_cli.specs.Faults.{line_of, status_of}
 
--- What becomes of a stream: its bytes before and after, where they are known, and whether it has failed then. A
--- reader's bytes are those that remain, a writer's those that it holds.
+-- The change of a stream: its bytes before and after, if they are known, and whether it has failed
+-- then. A reader's bytes are those that remain, a writer's those that it holds.
 pub record Change : Type 0 where
   pub before : Option (List ℕ)
   pub after : Option (List ℕ)
@@ -30,7 +30,8 @@ pub record Says (s : Change) (line : List ℕ) : Type 0 where
 abbrev pub Tells : Fault → Change → ℕ → Type 0
 Tells fault err status = Says err (line_of fault) × (status ≡ status_of fault)
 
--- the fault that came was told, or out of memory in the place of a plan's fault, whose line takes memory
+-- the fault that came was reported, or out of memory in place of a plan's fault, whose line takes
+-- memory
 abbrev pub IsTold : Fault → Change → ℕ → Type 0
 IsTold (Plan f) err status = Tells (Plan f) err status ⊎ Tells NoMemory err status
 IsTold fault err status = Tells fault err status

@@ -31,12 +31,12 @@ status_of Thread = 3
 status_of Read = 4
 status_of Write = 4
 
--- the reader has failed where this fault came
+-- the reader has failed if this fault came
 abbrev pub is_of_reader : Fault → Bool
 is_of_reader Read = true
 is_of_reader fault = false
 
--- the writer has failed where this fault came
+-- the writer has failed if this fault came
 abbrev pub is_of_writer : Fault → Bool
 is_of_writer Write = true
 is_of_writer fault = false

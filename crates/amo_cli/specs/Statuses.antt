@@ -1,4 +1,4 @@
--- What each exit status says of the words, the reader and the two writers, by what the program's commands mean.
+-- The meaning of each exit status, for the words, the reader and the two writers.
 use Rattle.std.specs.Prelude.{◌≡◌, ◌⊎◌, ℕ, List, Bool, false, Option, Some, None, Result, MatchResult, ⊤}
 use Rattle.std.specs.Io.KnownBytes.{IsAtEnd}
 use Rattle.amo_render.specs.declared.writing.ReplayFault.{ReplayFault}
@@ -8,21 +8,24 @@ use Rattle.amo_cli.specs.declared.fault.Fault.TheVariants.{Plan, NoCommand, NoMe
 use Rattle.amo_cli.specs.Endings.{Change, IsKept, Tells}
 use Rattle.amo_cli.specs.Faults.{is_of_reader, is_of_writer}
 
--- What may be said of the bytes that a reader had, and of those that a writer held and holds, where they are known.
+-- A fact on the bytes that a reader had, and on those that a writer held and holds, if they are
+-- known.
 abbrev pub Left : Type 1
 Left = (known old new : Option (List ℕ)) → Type 0
 
--- What the words ask for was found out: a command, or that they are none, or out of memory.
+-- The request of the words was found: a command, or that they are not a command, or out of memory.
 abbrev pub IsAsked : {C : Type 0} → Option C → Result C Fault → Type 0
 IsAsked wanted found = MatchResult found (λ command. wanted ≡ Some command) (λ fault. ((fault ≡ NoCommand) × (wanted ≡ None)) ⊎ (fault ≡ NoMemory))
 
--- Nothing that was written to `out` waits for a flush where it is a text that was written whole before the fault came.
+-- Nothing that was written to `out` waits for a flush, if it is a text that was written whole
+-- before the fault came.
 abbrev pub IsPassedOn : Fault → Bool → Type 0
 IsPassedOn Thread waits = waits ≡ false
 IsPassedOn fault waits = ⊤
 
 module _ {C : Type 0} where
-  -- What is wanted was written to `out`, and nothing else. The reader is at its end, and neither has failed.
+  -- The wanted text was written to `out`, and nothing else. The reader is at its end, and neither
+  -- has failed.
   pub record IsDone (writes : C → Left) (wanted : Option C) (reader out : Change) : Type 0 where
     pub command : C
     pub asked : wanted ≡ Some command
@@ -53,14 +56,16 @@ module _ {C : Type 0} where
   Leaves refuses others Read wanted reader out = IsRefused refuses replay.Read wanted reader out
   Leaves refuses others Write wanted reader out = IsRefused refuses replay.Write wanted reader out
 
-  -- This fault came: what it leaves, and the reader has failed just where it is `Read`, `out` just where it is `Write`.
+  -- This fault came, and left this. The reader has failed exactly if it is `Read`, and `out`
+  -- exactly if it is `Write`.
   pub record IsFault (refuses : C → ReplayFault → Left) (others : C → Left) (fault : Fault) (wanted : Option C) (reader out : Change) : Type 0 where
     pub left : Leaves refuses others fault wanted reader out
     pub source : reader.failed ≡ is_of_reader fault
     pub sink : out.failed ≡ is_of_writer fault
 
-  -- What an exit status says: the command was done, nothing was written to `err`, and the status is 0; or a fault came and
-  -- was told, and the status is that of the fault, 1 to 4. The flag says whether anything that was written to `out` waits.
+  -- The meaning of an exit status. Either the command was done, nothing was written to `err`, and
+  -- the status is 0. Or a fault came and was reported, and the status is that of the fault, 1 to 4.
+  -- The flag is true if nothing that was written to `out` waits.
   abbrev pub Ends : (writes : C → Left) (refuses : C → ReplayFault → Left) (others : C → Left) → Option C → Change → Change → Bool → Change → ℕ → Type 0
   Ends writes refuses others wanted reader out waits err status =
       (IsDone writes wanted reader out × IsKept err × (status ≡ 0))

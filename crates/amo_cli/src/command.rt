@@ -1,4 +1,4 @@
-//! What a command of a program over plans is.
+//! The commands of a program over plans.
 ghost use denote.Param.Send.{IsSync};
 ghost use Rattle.std.specs.Prelude.{◌≡◌, ◌≢◌, ℕ, List, Option, Some, OnOk, IfOk, IfErr, false, map, string_bytes};
 ghost use Rattle.std.specs.Io.KnownBytes.{Keeps};
@@ -12,33 +12,37 @@ use crate::fault::Fault;
 use amo_io::{Sink, Source};
 use std::alloc::Global;
 
-/// A command of a program, which reads a plan and writes one text. `R` is what it needs to run by:
-/// a command that starts no thread takes any.
+/// A command of a program, which reads a plan and writes one text. `R` gives it threads: a command
+/// that starts no thread takes any type.
 pub trait Command<R: Sync>: Drop + Sized {
-    /// What all words that the program is given ask for, its own name first, or nothing where they
-    /// are no command.
+    /// The command of all words of a command line, the program's name first, or nothing if they are
+    /// no command.
     ghost asked: { List (List ℕ) → Option Self };
 
-    /// Whether its numbers are within their ranges.
+    /// Its numbers are within their ranges.
     ghost fits: { Self → Type 0 };
 
-    /// What it writes where it is done.
+    /// Its effect on the streams if it is done.
     ghost writes: { Self → Left };
 
-    /// What is left where a fault of its text came.
+    /// Its effect on the streams if a fault of its text came.
     ghost refuses: { Self → ReplayFault → Left };
 
-    /// What it writes where a thread was refused.
+    /// Its effect on the streams if a thread was refused.
     ghost others: { Self → Left };
 
-    /// What these words ask for, the program's name first: a command whose numbers are within their
-    /// ranges, or `NoCommand`, or `NoMemory`.
+    /// Returns the command of these words, the program's name first.
+    ///
+    /// # Errors
+    ///
+    /// `NoCommand` if the words are no command with numbers within their ranges. `NoMemory` if
+    /// memory was refused.
     fn of_words(alloc: Global, words: &[String]) -> Result<Self, Fault>
         ensures answer { IsAsked (asked (map string_bytes words.now)) result }
         ensures ranges { IfOk result (λ c. fits c) };
 
-    /// Does it. That threads may share what it runs by is asked here, since a trait's method has no
-    /// bound of its own that says so.
+    /// Does the command. This method has the bound that threads may share `R`, since a trait's
+    /// method can't get it from elsewhere.
     fn carry_out<S: Source, W: Sink>(
         &self,
         rt: &R,
@@ -59,6 +63,6 @@ pub trait Command<R: Sync>: Drop + Sized {
             (change (W.contents out.old) (W.contents out.new) (W.failed out.new))) }
         ensures passed_on { IfErr result (λ fault. IsPassedOn fault (W.waiting out.new)) };
 
-    /// Where the plan was refused, nothing was written.
+    /// Nothing was written if the plan was refused.
     ghost plan_keeps: { (c : Self) (f : PlanFault) (known old new : Option (List ℕ)) → refuses c (Plan f) known old new → Keeps old new };
 }

@@ -1,4 +1,4 @@
-//! Why a command wasn't done.
+//! Faults of a command.
 ghost use Rattle.std.specs.Prelude.{◌≡◌};
 ghost use Rattle.amo_cli.specs.Faults.{fault_of_replay};
 ghost use Rattle.amo_cli.specs.declared.fault.Fault.TheVariants.{NoMemory};
@@ -16,7 +16,7 @@ pub enum Fault {
     NoCommand,
     /// Memory was refused.
     NoMemory,
-    /// A thread could not be started. The text of what the others did was written.
+    /// A thread could not be started. The text of the other threads' work was written.
     Thread,
     /// The reader failed.
     Read,

@@ -1,5 +1,7 @@
-//! A program over plans: what a command is, what the system gives it, the line that tells of a
-//! fault, and the exit status.
+//! A program over plans: its commands, the system's words and streams, the line of a fault, and the
+//! exit status.
+//!
+//! Start at [`serve_words`], which does the command of the words. A program implements [`Command`].
 #![tactic(auto)]
 
 mod command;

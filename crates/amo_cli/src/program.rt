@@ -1,4 +1,4 @@
-//! The program on what the system gives it: all its words and three streams.
+//! The program on the words and the three streams of the system.
 ghost use Rattle.std.specs.Prelude.{◌≡◌, ◌≤◌, Some, None, false, map, OnErr, IfOk, string_bytes};
 ghost use Rattle.std.specs.Process.{exit_status};
 ghost use Rattle.std.specs.Vec.Iter.{into_iter_items};
@@ -16,11 +16,11 @@ use std::env::Args;
 use std::io;
 use std::process::ExitCode;
 
-/// Does a command whose numbers are within their ranges, and answers the exit status of the
-/// program: 0 where it was done, 1 where the plan was refused, 3 where memory or a thread was
-/// refused, 4 where a read or a write failed. With each but 0 one line is written to `err` and
-/// passed on; that this fails changes nothing. Neither `reader` nor `out` may have failed. It
-/// returns if what the command runs by does.
+/// Does a command whose numbers are within their ranges, and returns the exit status of the
+/// program. It is 0 if the command was done, 1 if the plan was refused, 3 if memory or a thread was
+/// refused, 4 if a read or a write failed. With each but 0 one line is written to `err` and passed
+/// on; if that fails, nothing else changes. Neither `reader` nor `out` may have failed. It returns
+/// if the command's `R` does.
 fn status_of_command<R: Sync, C: Command<R>, S: Source, W: Sink, E: Sink>(
     rt: &R,
     alloc: Global,
@@ -45,8 +45,8 @@ fn status_of_command<R: Sync, C: Command<R>, S: Source, W: Sink, E: Sink>(
     }
 }
 
-/// The same of the command that these words ask for, the program's name first; 2 where they are
-/// none: then nothing is read or written to `out`.
+/// Does the command that these words ask for, the program's name first, and returns the exit
+/// status. It is 2 if the words are no command. Then nothing is read or written to `out`.
 fn status_of_words<R: Sync, C: Command<R>, S: Source, W: Sink, E: Sink>(
     rt: &R,
     alloc: Global,
@@ -71,14 +71,18 @@ fn status_of_words<R: Sync, C: Command<R>, S: Source, W: Sink, E: Sink>(
     }
 }
 
-/// The whole program on the words that the system gives it, its own name first, and its streams:
-/// does what the words after the name ask for, and answers the exit status: 0 where it was done, 1
-/// where the plan was refused, 2 where the words are no command, 3 where memory or a thread was
-/// refused, 4 where a read or a write failed. With each but 0 one line is written to `err` and
-/// passed on; that this fails changes nothing. Where the words are no command nothing is read or
-/// written to `out`. Where the system can't give the words, since memory for them is refused or one
-/// of them isn't UTF-8, that is out of memory, before anything is read. Neither `reader` nor `out`
-/// may have failed. It returns if what the commands run by does.
+/// Does the command of the system's words, the program's name first, and returns the exit status.
+/// It returns if the commands' `R` does.
+///
+/// - 0: the command was done.
+/// - 1: the plan was refused.
+/// - 2: the words are no command. Nothing is read or written to `out`.
+/// - 3: memory or a thread was refused. It is also returned, before anything is read, if the system
+///   can't give the words, since memory for them is refused or one of them isn't UTF-8.
+/// - 4: a read or a write failed.
+///
+/// With each but 0 one line is written to `err` and passed on. If that fails, nothing else changes.
+/// Neither `reader` nor `out` may have failed before.
 pub fn serve_words<R: Sync, C: Command<R>, S: Source, W: Sink, E: Sink>(
     rt: &R,
     alloc: Global,

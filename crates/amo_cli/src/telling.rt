@@ -7,7 +7,7 @@ use amo_io::{Sink, write_all};
 use amo_render::fault_text;
 use std::alloc::{AllocError, Global};
 
-/// Gives a line to the sink. That this fails changes nothing.
+/// Gives a line to the sink. If that fails, nothing else changes.
 fn say<E: Sink>(err: &mut E, line: &str)
     ensures says { Says (change (E.contents err.old) (E.contents err.new) (E.failed err.new)) line.now }
     ensures heard { E.failed err.new ≡ false → E.waiting err.new ≡ false }
@@ -15,8 +15,8 @@ fn say<E: Sink>(err: &mut E, line: &str)
     let _ = write_all(err, line.as_bytes());
 }
 
-/// Tells of the fault, or of memory having run out where there is none for its line, and answers
-/// the status.
+/// Writes the line of the fault, and returns the status. If there is no memory for the line, it
+/// reports out of memory instead.
 #[tactic(auto, using(crate::proofs::Endings::told))]
 pub fn refuse<E: Sink>(alloc: Global, err: &mut E, fault: Fault) -> u8
     ensures told { IsTold fault (change (E.contents err.old) (E.contents err.new) (E.failed err.new)) result }

@@ -5,7 +5,8 @@ ghost use Rattle.std.specs.Vec.Iter.{into_iter_items};
 use std::alloc::{AllocError, Global};
 use std::env::Args;
 
-/// The words, as a list, the program's own name first. The only error is out of memory.
+/// Returns the words, as a list, the program's own name first. Fails if there was no memory.
+/// the system can't give the words.
 pub(crate) fn listed(alloc: Global, words: Args) -> Result<Vec<String>, AllocError>
     ensures { IfOk result (λ list. list.items ≡ into_iter_items words) }
 {

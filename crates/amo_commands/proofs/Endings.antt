@@ -1,4 +1,4 @@
--- What is left if memory was refused.
+-- The streams after memory was refused.
 use Rattle.std.proofs.Common.{ℕ, List, Option}
 use Rattle.std.specs.Io.KnownBytes.{Keeps}
 use Rattle.amo_render.specs.declared.writing.ReplayFault.TheVariants as replay

@@ -1,4 +1,4 @@
--- What is done for a request: what it writes, and what it leaves.
+-- The effect of a request: the text that it writes, and the streams that it leaves.
 use Rattle.std.specs.Prelude.{ℕ, List, Option, option_map}
 use Rattle.std.specs.Io.KnownBytes.{Keeps}
 use Rattle.amo_plan.specs.declared.fault.PlanFault.{PlanFault}
@@ -27,8 +27,9 @@ asked_command words = option_map command_of (asked_after_name words)
 abbrev pub IsWithinRanges : AmoCommand → Type 0
 IsWithinRanges command = requests.IsWithinRanges command.request
 
--- A request writes this of the plan of a source with these bytes, and nothing else: the text that is wanted; or the text of
--- a run whose threads were all started. A plan has more than one such text.
+-- A request writes this, of the plan of a source with these bytes, and nothing else. It is the
+-- wanted text, or the text of a run whose threads were all started. A plan has more than one text
+-- of a run.
 abbrev pub written_for : Request → Left
 written_for (Write text) = Writes (text_of text)
 written_for Run = WritesRun All

@@ -1,5 +1,7 @@
-//! All that the program `amo` does, over any source and any two sinks: what each command writes of
-//! the plan that is read, and the status with which it ends.
+//! The commands of the program `amo`, over any source and any two sinks.
+//!
+//! Start at [`AmoCommand`]. It writes the text that a request asks for, of the plan that is read,
+//! and determines the exit status.
 #![tactic(auto)]
 
 mod working;

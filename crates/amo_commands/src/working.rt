@@ -1,4 +1,4 @@
-//! What the program does, over any source and any two sinks.
+//! The work of the program, over any source and any two sinks.
 ghost use Rattle.std.specs.Prelude.{◌≡◌, map, string_bytes, IfOk};
 
 use amo_args::{Request, asked};
@@ -10,7 +10,7 @@ use std::alloc::{AllocError, Global};
 use std::sync::Wait;
 use std::thread::Threads;
 
-/// The texts of the words.
+/// Returns the texts of the words.
 fn texts_of<'a>(alloc: Global, words: &'a [String]) -> Result<Vec<&'a str>, AllocError>
     ensures { IfOk result (λ texts. map (λ t. t.now) texts.items ≡ map string_bytes words.now) }
 {

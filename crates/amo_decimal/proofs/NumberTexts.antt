@@ -1,4 +1,4 @@
--- What std reads as a number, and what is printed of one.
+-- The texts that std reads as a number, and the text that is printed of a number.
 use Rattle.std.proofs.Common.{◌≡◌, ◌≢◌, ◌↔◌, ◌⊎◌, inl, ⊎_elim, ℕ, zero, suc, ◌^◌, ◌<◌, Bool, true, false, cond, ◌&&◌, List, [], ◌∷◌, length, get_or, Option, Some, None, Result, Ok, Err, refl, sym, ap, subst, ◌∙◌, arith}
 use Rattle.std.specs.Prelude.{nat_lt, ◌||◌, ◌==◌}
 use Rattle.std.specs.Result.{result_ok}
@@ -21,7 +21,7 @@ is_less a b h = grind (arith, nat_tests)
 less_is : (a b : ℕ) → a < b → nat_lt a b ≡ true
 less_is a b h = grind (arith, nat_tests)
 
--- what begins strictly begins with a digit, or with what is none and no plus
+-- a text that begins strictly begins with a digit, or with another byte than a plus
 front_of : (a n : ℕ) → (nat_lt 48 a || ((a == 48) && (n == 1))) ≡ true → (48 < a) ⊎ ((a ≡ 48) × (n ≡ 1))
 front_of a n h = grind (arith, nat_tests)
 
@@ -88,7 +88,7 @@ number_is_decimal text k = (
   λ h. ap number_in h.0 ∙ reads_printed k h.1,
 )
 
--- what is no text says no number
+-- bytes that are not UTF-8 say no number
 pub number_no_text : (bytes : List ℕ) → ¬ (IsUtf8 bytes) → None ≡ number_in bytes
 number_no_text bytes never = by_case (number_in bytes) refl
   where

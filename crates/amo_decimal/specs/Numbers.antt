@@ -1,9 +1,9 @@
--- A number in a text.
+-- Numbers in texts: decimal digits, each number written in one way.
 use Rattle.std.specs.Prelude.{ℕ, ◌^◌, Bool, ◌&&◌, ◌||◌, nat_lt, List, ◌==◌, length, slice_index, Option, Some, None, if◌then◌else◌}
 use Rattle.std.specs.Str.{all_ascii_digits}
 use Rattle.std.specs.Str.Parse.{digits_value}
 
--- a digit from 1 on, or 0 alone
+-- the bytes begin with a digit from 1 on, or are 0 alone
 abbrev pub begins_strictly : List ℕ → Bool
 begins_strictly text = nat_lt 48 (slice_index text 0) || ((slice_index text 0 == 48) && (length text == 1))
 

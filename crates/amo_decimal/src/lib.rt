@@ -1,5 +1,7 @@
-//! A number below 2 to the 64 in a text: digits alone, and no 0 before others, so that each number
-//! is written in one way. The theorem stands in the module `laws`.
+//! Numbers below 2 to the 64 in a text, each written in one way: digits alone, and no 0 before
+//! others.
+//!
+//! Start at [`number`]. The theorem stands in the module [`laws`].
 #![tactic(auto)]
 
 pub mod laws;

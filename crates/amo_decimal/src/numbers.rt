@@ -1,11 +1,11 @@
-//! Reads a number in decimal digits.
+//! Reading a number in decimal digits.
 ghost use Rattle.std.specs.Prelude.{◌≡◌};
 ghost use Rattle.amo_decimal.specs.Numbers.{begins_strictly, number_in};
 
 use std::str;
 
-/// Returns the number below 2 to the 64 that a text says: digits alone, and no 0 before others. Any
-/// other text says none, as the empty one, one with a sign, and one with a blank.
+/// Returns the number below 2 to the 64 that a text says, or `None`. The text has digits alone, and
+/// no 0 before others. So an empty text, one with a sign and one with a blank say no number.
 #[tactic(auto, using(crate::proofs::NumberTexts::number_is, crate::proofs::NumberTexts::number_isnt))]
 pub fn number(text: &str) -> Option<u64>
     ensures { result ≡ number_in text.now }
@@ -16,14 +16,14 @@ pub fn number(text: &str) -> Option<u64>
     text.parse::<u64>().ok()
 }
 
-/// A digit from 1 on at the front, or 0 alone.
+/// Returns true if the bytes begin with a digit from 1 on, or are 0 alone.
 fn begins_strictly(text: &[u8]) -> bool
     ensures { result ≡ begins_strictly text.now }
 {
     !text.is_empty() && (text[0] > b'0' || (text[0] == b'0' && text.len() == 1))
 }
 
-/// Returns the number that the bytes say, read as by `number`. Bytes that are no UTF-8 say none.
+/// Returns the number that the bytes say, as `number` reads it. Bytes that are not UTF-8 say none.
 #[tactic(auto, using(crate::proofs::NumberTexts::number_no_text))]
 pub fn number_of_bytes(bytes: &[u8]) -> Option<u64>
     ensures { result ≡ number_in bytes.now }

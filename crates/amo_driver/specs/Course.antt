@@ -1,5 +1,6 @@
--- Which deeds the process of a worker does, one after the other: the accesses of its process, in their order, and between a
--- claim and the filing of it the intent, the clearance, the performance if it is clear, and the note of the claimed job.
+-- The deeds of a worker's process, one after the other: the accesses of its process, in their
+-- order. Between a claim and the filing of it come the intent, the clearance, the performance if
+-- the job is clear, and the note of the claimed job.
 use Rattle.std.specs.Prelude.{◌≡◌, ⊤, ℕ, zero, suc, ◌+◌, Bool, true, false, List, [], ◌∷◌, Option, Some, None, ◌==◌, if◌then◌else◌}
 use Rattle.amo_kk.specs.Words.{next_word}
 use Rattle.amo_givens.specs.declared.givens.Givens.{Givens}
@@ -55,7 +56,8 @@ due (Unanswered s reply) = None
 due (Refused w v) = None
 due Broken = None
 
--- where a process stands that has just heard a number, by the job that it is told to perform, or 0, and the job in doubt, or 0
+-- the stage of a process that has just read a number, by the job that it is to perform, or 0, and
+-- the job in doubt, or 0
 abbrev pub stage_by_jobs : ℕ → ProcessView → (performs doubts : ℕ) → Stage
 stage_by_jobs s a zero zero = Going s a Go
 stage_by_jobs s a zero (suc j) = Finding s a (suc j)
@@ -76,20 +78,20 @@ abbrev pub stage_cleared : ℕ → ProcessView → ℕ → Bool → Stage
 stage_cleared s a j true = Performing s a j
 stage_cleared s a j false = Noting s a Unbegun Go
 
--- where it stands to which this came in answer to intent s: what became of another intent is no answer, and while a job runs
--- nothing is noted
+-- the stage after this reply to intent s. A reply to another intent doesn't count, and while a job
+-- runs nothing is noted
 abbrev pub stage_replied : ℕ → ProcessView → Reply → Stage
 stage_replied s a (Answered n c way) = if n == s then Noting s a c way else Unanswered s (Answered n c way)
 stage_replied s a (Running n way) = if n == s then Going (s + 1) a way else Unanswered s (Running n way)
 stage_replied s a Garbled = Unanswered s Garbled
 stage_replied s a Closed = Unanswered s Closed
 
--- where it stands that has learned what became of an intent that a former process has left, these being left too
+-- the stage after the outcome of an intent that a former process has left, these being left too
 abbrev pub stage_asking : Way → List Intent → Stage
 stage_asking Go rest = Asking rest
 stage_asking Leave rest = Dismissed rest
 
--- where it stands to which this came in answer, when it has asked for the first of these
+-- the stage after this reply, when it has asked for the first of these
 abbrev pub stage_asked : List Intent → Reply → Stage
 stage_asked [] reply = Asking []
 stage_asked (i ∷ rest) (Answered n c way) = if n == i.serial then Settling i.serial c way rest else Unanswered i.serial (Answered n c way)
@@ -97,7 +99,7 @@ stage_asked (i ∷ rest) (Running n way) = if n == i.serial then stage_asking wa
 stage_asked (i ∷ rest) Garbled = Unanswered i.serial Garbled
 stage_asked (i ∷ rest) Closed = Unanswered i.serial Closed
 
--- where it stands after a deed that was due
+-- the stage after a deed that was due
 abbrev pub stage_after : Stage → Deed → Stage
 stage_after s (Fell t) = Broken
 stage_after (Going s a way) (Loaded w v) = stage_told w v s way (process_after a v)
@@ -113,7 +115,7 @@ stage_after (Settling s c way rest) (Noted n d) = stage_asking way rest
 -- no other deed is due anywhere
 stage_after s d = s
 
--- where it stands after all of these, in their order
+-- the stage after all of these, in their order
 abbrev pub stage_after_all : Stage → List Deed → Stage
 stage_after_all s [] = s
 stage_after_all s (d ∷ ds) = stage_after_all (stage_after s d) ds
@@ -123,6 +125,7 @@ abbrev pub AreDue : Stage → List Deed → Type 0
 AreDue s [] = ⊤
 AreDue s (d ∷ ds) = (due s ≡ Some (try_of d)) × AreDue (stage_after s d) ds
 
--- where the process of worker p stands that has done nothing, s being the serial number of its first intent
+-- the stage of worker p's process before its first deed, s being the serial number of its first
+-- intent
 abbrev pub first_stage : Givens → ℕ → ℕ → Stage
 first_stage g p s = Going s (new_process g p) Go

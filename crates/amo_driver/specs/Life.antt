@@ -1,4 +1,5 @@
--- Within this crate: a process between two turns, the asking between two questions, and what is heard of an intent.
+-- Within this crate: a process between two turns, the asking between two questions, and the replies
+-- on an intent.
 use Rattle.std.specs.Prelude.{◌≡◌, ℕ, false, List, Option, Some, None, Result, Ok, Err, ◌==◌, if◌then◌else◌}
 use Rattle.amo_process.specs.Stepped.{is_refused}
 use Rattle.amo_driver.specs.declared.answer.Heard.{Heard}
@@ -22,7 +23,7 @@ use Rattle.amo_driver.specs.Stops.{EndsAt, AsksTo}
 abbrev pub IsGoing : (Stage → Type 0) → Life → Type 0
 IsGoing stands l = stands (Going l.next l.process l.way) × (is_refused l.process.standing ≡ false)
 
--- its process has just heard a number, and hasn't refused it
+-- its process has just read a number, and hasn't refused it
 abbrev pub HasHeard : (Stage → Type 0) → Life → Type 0
 HasHeard stands l = stands (stage_heard l.next l.way l.process) × (is_refused l.process.standing ≡ false)
 
@@ -41,7 +42,7 @@ abbrev pub AsksOn : (Stage → Type 0) → List Intent → Option Asked → Type
 AsksOn stands rest None = stands (Asking rest)
 AsksOn stands rest (Some asked) = AsksTo stands asked
 
--- what is heard of intent s where this came in answer to it: what became of another intent is no answer
+-- the news on intent s in this reply; a reply to another intent has none
 abbrev pub heard_of : ℕ → Reply → Result Heard Stop
 heard_of s (Answered n c way) = if n == s then Ok (Ended c way) else Err (OtherAnswer s n)
 heard_of s (Running n way) = if n == s then Ok (Runs way) else Err (OtherAnswer s n)

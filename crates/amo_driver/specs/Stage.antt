@@ -8,7 +8,7 @@ use Rattle.amo_driver.specs.declared.past.Intent.{Intent}
 
 -- Each but the last five says what is due. A first number is the serial number of the intent, or of the next one.
 pub data Stage : Type 0 where
-  -- the access that the process wants; where it is to leave, it is to file what is in its hand
+  -- the access that the process wants; if it is to leave, it is to file the job in its hand
   Going : ℕ → ProcessView → Way → Stage
   -- to say that this job was found in its hand as it began
   Finding : ℕ → ProcessView → ℕ → Stage

@@ -1,10 +1,10 @@
-//! What a partner says of a job that it was told to perform.
+//! The replies of a partner on a job that it was to perform.
 ghost use Rattle.std.specs.Prelude.{◌≡◌};
 ghost use Rattle.amo_driver.specs.Life.{heard_of};
 
 use crate::stop::Stop;
 
-/// What became of a job. It is noted.
+/// The result of a job, to be noted.
 #[derive(Clone, Copy, Debug, PartialEq, Eq)]
 pub enum JobResult {
     /// It was performed, and ended with this code.
@@ -17,7 +17,7 @@ pub enum JobResult {
     Untouched(u8),
 }
 
-/// Whether a worker is to go on.
+/// The partner's wish whether the worker goes on.
 #[derive(Clone, Copy, Debug, PartialEq, Eq)]
 pub enum Way {
     /// It goes on.
@@ -26,34 +26,32 @@ pub enum Way {
     Leave,
 }
 
-/// What comes in answer.
+/// The reply of a partner.
 #[derive(Clone, Copy, Debug, PartialEq, Eq)]
 pub enum Reply {
     /// Of the intent of this serial number: what became of its job.
     Answered(u64, JobResult, Way),
-    /// Of the intent of this serial number: its job still runs, and what became of it is to be
-    /// asked for later.
+    /// The job of the intent of this serial number still runs. Its result is to be asked for later.
     Running(u64, Way),
-    /// Something that is no answer.
+    /// The reply is invalid.
     Garbled,
-    /// Nothing: there is nobody any more who could answer.
+    /// The partner is gone.
     Closed,
 }
 
-/// What was heard of an intent.
+/// The news on an intent.
 #[derive(Clone, Copy, Debug, PartialEq, Eq)]
 pub(crate) enum Heard {
-    /// What became of its job.
+    /// Its job ended with this result.
     Ended(JobResult, Way),
-    /// That its job still runs.
+    /// Its job still runs.
     Runs(Way),
     /// Nothing, and nothing will be.
     Silence,
 }
 
 impl Reply {
-    /// What this says of the intent of this serial number. What became of another intent is no
-    /// answer to it.
+    /// Returns the news on the intent of this serial number. A reply on another intent has none.
     pub(crate) fn heard_of(self, serial: u64) -> Result<Heard, Stop>
         ensures { result ≡ heard_of serial self }
     {

@@ -1,6 +1,18 @@
-//! The work of one worker that is a process of its own: what it does outside of itself, in which
-//! order, and where it ends. Words, journal and partner are behind one trait, `Outside`, so what is
-//! promised of the order holds however each call turns out.
+//! The work of one worker that is a process of its own: the order of its calls on registers,
+//! journal and partner.
+//!
+//! Start at [`work`]. All calls outside are behind one trait, [`Outside`]. So the contracts on the
+//! order hold whatever each call returns. [`ask_pending`] settles the intents that former processes
+//! of the worker left.
+//!
+//! | here | in the glossary |
+//! |---|---|
+//! | partner | runner |
+//! | words | registers |
+//! | deed, try | effect, attempted effect |
+//! | course | driver |
+//! | p | a worker |
+//! | j | a job |
 #![tactic(auto)]
 
 mod answer;

@@ -1,4 +1,4 @@
-//! A process with what it knows of its journal, turn by turn.
+//! A process with the part of its journal that it needs, turn by turn.
 ghost use Rattle.std.specs.Prelude.{◌≡◌, ◌<◌, ◌-◌, ◌^◌, false, Ok, None, IfOk, IfErr, OnOk};
 ghost use Rattle.amo_givens.specs.Givens.{IsWorker};
 ghost use Rattle.amo_process.specs.Stepped.{access_of, is_refused};
@@ -17,7 +17,7 @@ use amo_givens::Givens;
 use amo_process::{Access, NoSuchNumber, Process};
 use std::alloc::{AllocError, Global};
 
-/// A process, the serial number of its next intent, and whether it is to go on.
+/// A process, the serial number of its next intent, and the wish whether it goes on.
 #[derive(Drop)]
 pub(crate) struct Life {
     process: Process,
@@ -26,8 +26,8 @@ pub(crate) struct Life {
 }
 
 impl Life {
-    /// A process of worker p that has done nothing, in whose journal the next intent has this
-    /// serial number.
+    /// Returns a process of worker p that has done nothing, in whose journal the next intent has
+    /// this serial number.
     pub(crate) fn new(
         alloc: Global,
         givens: Givens,
@@ -46,7 +46,7 @@ impl Life {
         })
     }
 
-    /// The next access of the process, and what is due between it and the one after.
+    /// Makes the next access of the process, and the calls that are due before the one after.
     pub(crate) fn turn<O: Outside>(&mut self, outside: &mut O) -> Result<Option<LifeEnd>, Stop>
         requires goes { IsGoing (O.stands outside.old) self.old }
         ensures turns { IfOk result (λ end. TurnsTo (O.stands outside.new) self.new end) }
@@ -61,7 +61,7 @@ impl Life {
         self.settle(outside)
     }
 
-    /// What is due between an access that was made and the next.
+    /// Makes the calls that are due between an access that was made and the next.
     fn settle<O: Outside>(&mut self, outside: &mut O) -> Result<Option<LifeEnd>, Stop>
         requires heard { HasHeard (O.stands outside.old) self.old }
         ensures turns { IfOk result (λ end. TurnsTo (O.stands outside.new) self.new end) }
@@ -124,7 +124,8 @@ impl Life {
         Ok(Some(LifeEnd::Left))
     }
 
-    /// Has the job performed that the process is told to, and says which it found in its hand.
+    /// Has the job performed that the process is to perform, and reports the job that it found in
+    /// its hand.
     fn attend<O: Outside>(&mut self, outside: &mut O) -> Result<Option<LifeEnd>, Stop>
         requires heard { HasHeard (O.stands outside.old) self.old }
         requires way { self.old.way ≡ Go }

@@ -1,30 +1,30 @@
 //! The values of which the definitions speak.
 use crate::answer::{JobResult, Reply};
 
-/// What a process tries to do outside of itself.
+/// `Try`, an attempted effect: a call outside that a process may make.
 #[derive(Clone, Copy, Debug, PartialEq, Eq)]
 pub enum Try {
-    /// To load this word.
+    /// Load this word.
     Load(u64),
-    /// To store to this word this value.
+    /// Store to this word this value.
     Store(u64, u64),
-    /// To say that its own words show this job claimed and not filed.
+    /// Report that its own words show this job claimed and not filed.
     Find(u32),
-    /// To put into the journal, under this serial number, the intent to have this job performed.
+    /// Put into the journal, under this serial number, the intent to have this job performed.
     Intend(u64, u32),
-    /// To ask whether this job may be handed over, by the intent of this serial number.
+    /// Ask whether this job may be handed over, by the intent of this serial number.
     Clear(u64, u32),
-    /// To have this job performed, by the intent of this serial number.
+    /// Have this job performed, by the intent of this serial number.
     Perform(u64, u32),
-    /// To hand to the journal what became of the intent of this serial number. The journal may hold
+    /// Hand the result of the intent of this serial number to the journal. The journal may hold
     /// that back until the next intent, and then append both at once.
     Note(u64, JobResult),
-    /// To ask what became of the intent of this serial number, left by a former process, of this
-    /// line.
+    /// Ask for the result of the intent of this serial number, of this line, which a former process
+    /// left.
     Ask(u64, u64),
 }
 
-/// What a process has done outside of itself.
+/// `Deed`, an effect: a call outside that a process has made.
 #[derive(Clone, Copy, Debug, PartialEq, Eq)]
 pub enum Deed {
     /// It has loaded this word, and this value was given.
@@ -36,10 +36,10 @@ pub enum Deed {
     /// The intent of this serial number, to have this job performed, is in the journal.
     Intended(u64, u32),
     /// It has asked whether this job may be handed over, by the intent of this serial number. The
-    /// answer is true if it may. If the answer is false, the job is taken.
+    /// reply is true if it may. If the reply is false, the job is taken.
     Cleared(u64, u32, bool),
-    /// The partner was told to perform this job, by the intent of this serial number, and this came
-    /// in answer.
+    /// It has asked the partner to perform this job, by the intent of this serial number, and got
+    /// this reply.
     Performed(u64, u32, Reply),
     /// The journal has what became of the intent of this serial number, or holds it back until the
     /// next intent.

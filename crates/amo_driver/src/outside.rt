@@ -1,4 +1,4 @@
-//! What is outside of a process: the shared words, its journal, and a partner who performs jobs.
+//! The outside of a process: the registers, its journal, and a partner that performs jobs.
 ghost use Rattle.std.specs.Prelude.{ℕ, IfOk, OnOk, OnErr};
 ghost use Rattle.amo_driver.specs.declared.model.Deed.TheVariants.{Loaded, Stored, Found, Intended, Cleared, Performed, Noted, Fell};
 ghost use Rattle.amo_driver.specs.declared.model.Try.TheVariants.{Load, Store, Find, Intend, Clear, Perform, Note};
@@ -49,8 +49,8 @@ pub trait Outside {
         ensures fails { OnErr result (Moves (stands self.old) (stands self.new) (Fell (Intend serial job))) }
         ensures counts { Counts (has_done self.old) (has_done self.new) };
 
-    /// Returns whether this job may be handed over. It is asked only after the intent is in the
-    /// journal. If the answer is false, the job is taken: the partner never performs it by this
+    /// Returns true if this job may be handed over. The driver asks only after the intent is in the
+    /// journal. If it returns false, the job is taken: the partner never performs it by this
     /// intent, and the intent is noted as not begun.
     fn clear(&mut self, serial: u64, job: u32) -> Result<bool, Failed>
         requires { MayCall (stands self.old) (Clear serial job) }

@@ -1,4 +1,4 @@
-//! What former processes of a worker have left: intents in its journal that have no answer.
+//! Intents without an outcome that former processes of a worker left in its journal.
 ghost use Rattle.std.specs.Prelude.{◌≡◌, ◌+◌, ◌<◌, ◌∷◌, IfOk, IfErr, OnOk, OnErr, length, drop};
 ghost use Rattle.amo_driver.specs.declared.model.Deed.TheVariants.{Noted, Asked as AskedDeed, Fell};
 ghost use Rattle.amo_driver.specs.declared.model.Try.TheVariants.{Note, Ask};
@@ -24,15 +24,15 @@ pub struct Intent {
 pub enum Asked {
     /// Each was asked for, and what became of it is noted, unless it still runs.
     All,
-    /// The worker is to leave. What became of the last that was asked for is noted, unless it still
-    /// runs.
+    /// The worker is to leave. The result of the last intent that was asked for is noted, unless
+    /// its job still runs.
     Dismissed,
     /// Nothing came in answer for the intent of this serial number, and nothing will. It stays
     /// pending.
     Cut(u64),
 }
 
-/// A journal, and a partner who may know what became of its intents. After a call has failed no
+/// A journal, and a partner that may know the results of its intents. After a call has failed no
 /// other is made.
 pub trait Past {
     /// The process may be at this stage, by all that it has done. If nothing records that, it may
@@ -53,10 +53,14 @@ pub trait Past {
         ensures fails { OnErr result (Moves (stands self.old) (stands self.new) (Fell (Note serial answer))) };
 }
 
-/// Asks for each of these intents, in their order, and notes what became of it before the next is
-/// asked for. Of one that still runs nothing is noted. After an answer that tells the worker to
-/// leave it is noted, and no other is asked for. After anything has failed, and after something
-/// else than the answer that was awaited, nothing is asked for or noted.
+/// Asks for the result of each of these intents, in their order, and notes it before it asks for
+/// the next. If the job of an intent still runs, nothing is noted of it. If a reply asks the worker
+/// to leave, that result is noted, and nothing else is asked for.
+///
+/// # Errors
+///
+/// The reason to stop: a call failed, or a reply was not the one that was awaited. Nothing is asked
+/// for or noted after that.
 pub fn ask_pending<P: Past>(pending: &[Intent], past: &mut P) -> Result<Asked, Stop>
     requires begins { P.stands past.old (Asking pending.now) }
     ensures ends { IfOk result (λ asked. AsksTo (P.stands past.new) asked) }

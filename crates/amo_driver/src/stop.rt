@@ -1,4 +1,4 @@
-//! How a process ends, and why it stops before that.
+//! The ends of a process, and the reasons to stop before an end.
 use thiserror::Error;
 
 /// How a process ended.
@@ -6,7 +6,7 @@ use thiserror::Error;
 pub enum LifeEnd {
     /// Its worker is over.
     Over,
-    /// It was told to leave, and has left.
+    /// It was asked to leave, and has left.
     Left,
     /// No reply came to the intent of this serial number, and none will. The intent stays pending.
     Cut(u64),

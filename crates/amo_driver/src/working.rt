@@ -10,14 +10,18 @@ use crate::stop::{LifeEnd, Stop};
 use amo_givens::Givens;
 use std::alloc::Global;
 
-/// The whole work of a process that begins as worker p, in whose journal the next intent has this
-/// serial number: its own words, and then what they lead to, to its end. Each call outside is the
-/// one that is due by what the calls before it have given. A job is performed only if the process
-/// is to perform it: once, right after its claim was stored, its intent put and the job found
-/// clear. The job is filed after the answer was noted, which is recorded at the latest with the
-/// next intent, or when the caller ends its work. A job that is taken is never performed: its
-/// intent is noted as not begun, and the job is filed. After anything has failed, and after a
-/// number that can't be, no call is made.
+/// Does the whole work of a process that begins as worker p, in whose journal the next intent has
+/// this serial number. It reads its own words first, and goes on from there to its end. Each call
+/// outside is the one that is due by the results of the calls before it.
+///
+/// A job is performed only if the process is to perform it: once, right after its claim was stored,
+/// its intent put and the job found clear. The job is filed after its result was noted. The result
+/// is recorded at the latest with the next intent, or when the caller ends its work. A job that is
+/// taken is never performed: its intent is noted as not begun, and the job is filed.
+///
+/// # Errors
+///
+/// The reason to stop: a call failed, or a number was impossible. No call is made after that.
 pub fn work<O: Outside>(
     alloc: Global,
     givens: Givens,

@@ -1,4 +1,5 @@
--- How a process comes to be told a job: by the store of its claim, and never a job that it has claimed already.
+-- A process gets a job to perform only by the store of its claim, and never a job that it has
+-- claimed already.
 use Rattle.std.proofs.Common.{◌≡◌, ◌≢◌, ℕ, zero, suc, ◌+◌, ◌≤◌, arith, Bool, true, false, refl, sym, ap, ◌∙◌, subst, List, [], ◌∷◌, ◌++◌, length, Option, Some, None, append-nil}
 use Rattle.std.specs.Prelude.{⊤, if◌then◌else◌, nat_le}
 use Rattle.std.proofs.lemmas.Bool.{true≢false}
@@ -56,7 +57,7 @@ module _ (j : ℕ) (some : 1 ≤ j) where
       by (Holding i) at e = record { machine = l; stands = refl; phase = at ∙ ap Holding e }
       by phase at e = absurd (omega arith)
 
-  -- who is told to perform j, and who is told that j is in doubt
+  -- a process that is to perform j, and one that has j in doubt
   pub told_holds : (s : Option Standing) → told_by s ≡ j → IsHolding s false j
   told_holds (Some (GoingOn l false)) e = in_hand l false e
   told_holds s e = absurd (omega arith)
@@ -65,14 +66,14 @@ module _ (j : ℕ) (some : 1 ≤ j) where
   doubted_holds (Some (GoingOn l true)) e = in_hand l true e
   doubted_holds s e = absurd (omega arith)
 
--- It has claimed j. Of one that has heard a number that can't come nothing is said: it is told no job any more.
+-- It has claimed j. A process that has read an impossible number has no job to perform any more.
 abbrev pub HasClaimed : ℕ → Option Standing → Type 0
 HasClaimed j None = ⊤
 HasClaimed j (Some (Beginning word)) = ⊥
 HasClaimed j (Some (GoingOn l fresh)) = has l.state.claimed j ≡ true
 
 module _ (g : Givens) (p : ℕ) where
-  -- who has heard no more than its own words is told no job
+  -- a process that has read no more than its own words has no job to perform
 
   fresh_untold : (b : Bool) (r : Record) → told_by (if b then going g p true (Some r) else None) ≡ 0
   fresh_untold true r = refl
@@ -104,7 +105,7 @@ module _ (g : Givens) (p : ℕ) where
       go None is e = more v is
       go (Some rest) is e = absurd (true≢false (not_begun (are_own_words g next claim (entries_of row)) (is_nothing rest) (record_after_all g p (record_again g p next claim (entries_of row)) rest) word e))
 
-  -- The worker that has heard this is about to claim j.
+  -- The worker that has read this is about to claim j.
   pub record IsClaiming (hs : List ℕ) (j : ℕ) : Type 0 where
     pub machine : LocalView
     pub fresh : Bool
@@ -115,7 +116,7 @@ module _ (g : Givens) (p : ℕ) where
   pub claim_wanted : (hs : List ℕ) (j : ℕ) (c : IsClaiming hs j) → access_of g p (standing_of g p hs) ≡ StoreAccess (claim_word g p) (length c.machine.state.claimed + 1)
   claim_wanted hs j c = ap (access_of g p) c.stands ∙ ap (λ x. access_for g p (want_in c.machine.state x)) c.phase
 
-  -- who is told a job after one more number was about to claim it
+  -- a process that gets a job by one more number was about to claim it
   pub was_claiming : (hs : List ℕ) (v j : ℕ) → 1 ≤ j → told_by (standing_of g p (hs ++ v ∷ [])) ≡ j → IsClaiming hs j
   was_claiming hs v j some told = go (standing_of g p hs) refl
     where
@@ -146,7 +147,8 @@ module _ (g : Givens) (p : ℕ) where
       by (Some (GoingOn l fresh)) h = hears l (can_hear g v (want l.state)) h
 
   module _ (o : IsWorker g p) (hs : List ℕ) (j : ℕ) (some : 1 ≤ j) where
-    -- what is in its hand was claimed, and so what it is told to perform, and what it is told to be in doubt
+    -- the job in its hand was claimed, and so the job that it is to perform, and the job that it
+    -- has in doubt
 
     held_claimed : (fresh : Bool) → IsHolding (standing_of g p hs) fresh j → HasClaimed j (standing_of g p hs)
     held_claimed fresh h =
@@ -161,7 +163,8 @@ module _ (g : Givens) (p : ℕ) where
     pub doubted_claimed : doubted_by (standing_of g p hs) ≡ j → HasClaimed j (standing_of g p hs)
     doubted_claimed e = held_claimed true (doubted_holds j some (standing_of g p hs) e)
 
-    -- what was claimed is told no more after the next number: of what is about to be claimed it doesn't know that it is done
+    -- a job that was claimed is no longer to perform after the next number: a job that is about to
+    -- be claimed is not known to be done
     pub told_no_more : (v : ℕ) → HasClaimed j (standing_of g p hs) → told_by (standing_of g p (hs ++ v ∷ [])) ≢ j
     told_no_more v claimed told =
         let c = was_claiming hs v j some told in

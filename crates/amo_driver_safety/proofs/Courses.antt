@@ -27,7 +27,7 @@ use Rattle.amo_driver_safety.specs.Course.{HasJustClaimed, HasJustIntended, HasJ
 use Rattle.amo_driver_safety.proofs.Stages.{word_in, value_in, job_in, serial_in, no_other, performing_at, clearing_at, process_of, hears_more, standing_is, access_is, Shown, all_shown}
 use Rattle.amo_driver_safety.proofs.Claims.{IsClaiming, claim_wanted, was_claiming}
 
--- where nothing is due, nothing follows
+-- if nothing is due, nothing follows
 
 pub ends_there : (s : Stage) (before after : List Deed) → AreDue s (before ++ after) → due (stage_after_all s before) ≡ None → after ≡ []
 ends_there s [] [] h e = refl
@@ -80,7 +80,7 @@ module _ (g : Givens) (p s : ℕ) where
   IsAfter ds (Settling n c way rest) = ⊥
   IsAfter ds s = ⊤
 
-  -- a number was heard, and the process may be told a job by it
+  -- a number was read, and the process may get a job by it
 
   module _ (ds : List Deed) (n : ℕ) (a : ProcessView) (came : (j : ℕ) → 1 ≤ j → told_by a.standing ≡ j → HasJustClaimed g p first ds n j a) where
     jobs_after : (t x : ℕ) → told_by a.standing ≡ t → IsAfter ds (stage_by_jobs n a t x)
@@ -103,7 +103,7 @@ module _ (g : Givens) (p s : ℕ) where
         by true = tt
         by false = heard_after way
 
-  -- the access by which it is told a job is the store of the claim
+  -- the access by which it gets a job is the store of the claim
   module _ (hs : List ℕ) (a : ProcessView) (is : a ≡ process_of g p hs) (j : ℕ) where
     claiming : (v : ℕ) → 1 ≤ j → told_by (process_after a v).standing ≡ j → IsClaiming g p hs j
     claiming v some told = was_claiming g p hs v j some (sym (ap told_by (standing_is g p (hs ++ v ∷ []) (process_after a v) (hears_more g p hs a is v))) ∙ told)

@@ -45,7 +45,7 @@ no_find (LoadAccess w) j e = sym (ap is_find e)
 no_find (StoreAccess w v) j e = sym (ap is_find e)
 no_find Nothing j e = sym (ap is_find e)
 
--- a job is found only where that is awaited
+-- a job is found only when that is awaited
 finding_only : (s : Stage) (j : ℕ) → due s ≡ Some (Find j) → (n : ℕ) × (a : ProcessView) × (s ≡ Finding n a j)
 finding_only (Finding n a i) j e = (n, a, ap (λ o. Finding n a (found_in o)) e)
 finding_only (Going n a way) j e = absurd (true≢false (no_find (access_of a.givens a.number a.standing) j e))
@@ -71,7 +71,7 @@ is_settled (Asking intents) = false
 is_settled (Settling n c way rest) = false
 is_settled s = true
 
--- who has begun has done so after one more number, and is told no job to be in doubt
+-- a process that has begun has done so after one more number, and has no job in doubt
 begun_after : (g : Givens) (p v : ℕ) (own : List ℕ) (s : Option Standing) → has_begun s ≡ true
     → (has_begun (standing_after g p v own s) ≡ true) × (doubted_by (standing_after g p v own s) ≡ 0)
 begun_after g p v own None h = (refl, refl)

@@ -20,7 +20,8 @@ use Rattle.amo_driver_safety.proofs.Claims.{HasClaimed, claim_stays, told_claime
 
 module _ (g : Givens) (p : ℕ) (o : IsWorker g p) where
   module _ (j : ℕ) (some : 1 ≤ j) where
-    -- no performance of j is to come: it is claimed, and handed over already or not what the process is told
+    -- no performance of j is to come: it is claimed, and was handed over, or is not the one to
+    -- perform
     abbrev IsPast : List ℕ → Stage → Type 0
     IsPast hs s = HasClaimed j (standing_of g p hs) × ((is_spent s ≡ true) ⊎ (told_by (standing_of g p hs) ≢ j))
 

@@ -94,7 +94,7 @@ moment_workers g sc (Loses p (Note n c)) h = tt
 moment_workers g sc (Loses p (Ask n line)) h = tt
 moment_workers g sc (Begins p n) h = (h, tt)
 
--- The words are the same, and where a process stands shows what it has heard.
+-- The words are the same, and the stage of each process shows the numbers that it has read.
 pub record ShowsScene (g : Givens) (sc : Scene) (sh : Shared) : Type 0 where
   pub words : sh.words ≡ sc.words
   pub size : length sh.lists ≡ g.workers
@@ -109,7 +109,7 @@ first_scene_shows g = record {
   shown = λ p o. subst (λ s. Shown g p (numbered [] (first_shared g).lists p) s) (sym (numbered-table Gone (λ _. Gone) g.workers p o.low o.high)) tt;
 }
 
--- where the stage of p changes, and what its process has heard
+-- the stage of p changes, and so do the numbers that its process has read
 
 module _ (g : Givens) (sc : Scene) (sh : Shared) (shows : ShowsScene g sc sh) (p : ℕ) (o : IsWorker g p) where
   pub stage_is : (s : Stage) → numbered Gone (put sc.stages p s) p ≡ s
@@ -243,7 +243,7 @@ pub scene_parts : (g : Givens) (sc : Scene) (xs ys : List Moment) → scene_afte
 scene_parts g sc [] ys = refl
 scene_parts g sc (x ∷ xs) ys = scene_parts g (scene_after g sc x) xs ys
 
--- what processes have heard shows each scene of a history
+-- the numbers that processes have read show each scene of a history
 
 shown_from : (g : Givens) (sc : Scene) (hs : List Happening) (ms : List Moment) → AreOfWorkers g hs → ShowsScene g sc (shared_of g hs) → IsHistoryFrom g sc ms
     → (all : List Happening) × AreOfWorkers g all × ShowsScene g (scene_after_all g sc ms) (shared_of g all)

@@ -1,4 +1,5 @@
--- Of each job one intent is tried at most, and then one performance, by the process that has tried it.
+-- At most one intent of each job is tried, and then one performance, by the process that has tried
+-- it.
 use Rattle.std.proofs.Common.{◌≡◌, ⊎_elim, ℕ, ◌≤◌, true, false, refl, sym, ap, ◌∙◌, subst, List, [], ◌∷◌, ◌++◌, append_assoc, append-nil, Option, Some, None}
 use Rattle.std.specs.Prelude.{⊤}
 use Rattle.std.proofs.lemmas.Bool.{true≢false, cases_eq}
@@ -132,9 +133,9 @@ module _ (g : Givens) (sc : Scene) (sh : Shared) (shows : ShowsScene g sc sh) (p
   moment_over (Loses q t) none over = put_over q Broken (λ e. tt) over
   moment_over (Begins q n) none over = put_over q (first_stage g q n) (λ e. tt) over
 
--- once a job was told to p, and p has tried its intent, or has handed it over
+-- once p got a job to perform, and p has tried its intent, or has handed it over
 module _ (g : Givens) (hs : List Happening) (w : AreOfWorkers g hs) (p : ℕ) (o : IsWorker g p) (j : ℕ) (low : 1 ≤ j) (told : told_to_perform g (shared_of g hs) p ≡ j) (by : Option ℕ) where
-  -- where it is after these moments
+  -- the scene after these moments
   pub record Reached (sc : Scene) (mid : List Moment) : Type 0 where
     pub more : List Happening
     pub workers : AreOfWorkers g more
@@ -163,7 +164,7 @@ module _ (g : Givens) (hs : List Happening) (w : AreOfWorkers g hs) (p : ℕ) (o
       (reach (scene_after g sc m) (mid ++ m ∷ []) ms (reach_next sc mid m r h.0) h.1)
 
   module _ (sc : Scene) (mid : List Moment) (r : Reached sc mid) (q n : ℕ) (v : IsWorker g q) where
-    -- what is told to q is told to p, before its next access
+    -- a job that q gets is one that p gets, before its next access
     told_here : IsTold g q (numbered [] (shared_after_all g (shared_of g hs) r.more).lists q) (stage_at sc q) j → (p ≡ q) × HasNoStep p r.more
     told_here t = told_once g hs r.more p q j w r.workers o v low told t.job
 
@@ -185,7 +186,7 @@ module _ (g : Givens) (hs : List Happening) (w : AreOfWorkers g hs) (p : ℕ) (o
         let once = told_here (here_told g q (numbered [] (shared_after_all g (shared_of g hs) r.more).lists q) (stage_at sc q) n j (r.shows.shown q v) e) in
         (once.0, subst (IsOver by) at.1 (subst (λ x. IsOver by (stage_at sc x)) once.0 (r.over once.1)), r.alone once.1)
 
--- where a moment leads that tries an intent of j, or its performance
+-- the scene after a moment that tries an intent of j, or its performance
 pub record Begun (g : Givens) (hs : List Happening) (w : AreOfWorkers g hs) (sc : Scene) (m : Moment) (j : ℕ) (by : Option ℕ) : Type 0 where
   pub worker : IsWorker g (worker_of m)
   pub low : 1 ≤ j

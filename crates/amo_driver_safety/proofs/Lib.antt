@@ -8,7 +8,7 @@ pub mod Once
 pub mod Courses
 pub mod Logs
 pub mod Chains
--- These serve this crate alone.
+-- For this crate alone:
 mod Example
 mod Handed
 mod Found

@@ -1,4 +1,4 @@
--- Where a process stands in a history is where its log leads.
+-- The stage of a process in a history is the one that its log leads to.
 use Rattle.std.proofs.Common.{◌≡◌, ⊎_elim, ℕ, refl, sym, ap, ◌∙◌, subst, arith, List, [], ◌∷◌, ◌++◌, length, Option, Some, None}
 use Rattle.std.specs.Prelude.{if◌then◌else◌, ◌==◌}
 use Rattle.std.proofs.lemmas.Bool.{eq-eqb, ne_eqb, cases_eq}
@@ -40,7 +40,7 @@ module _ (g : Givens) (p : ℕ) (o : IsWorker g p) where
   more_stands None s d f e = absurd (none-some (try_of d) (sym (ap due f) ∙ e))
   more_stands (Some l) s d f e = stands_more (first_stage g p l.serial) l.deeds d s f e
 
-  -- where the stage of q changes
+  -- if the stage of q changes
   put_stands : (sc : Scene) (l m : Option Log) (q : ℕ) (s : Stage) → length sc.stages ≡ g.workers → StandsBy g p l (stage_at sc p) → (q ≡ p → StandsBy g p m s)
       → StandsBy g p (if q == p then m else l) (numbered Gone (put sc.stages q s) p)
   put_stands sc l m q s size f mine = ⊎_elim

@@ -18,7 +18,7 @@ use Rattle.amo_driver_safety.specs.declared.model.Moment.TheVariants.{Does, Lose
 use Rattle.amo_driver_safety.proofs.Histories.{happenings_at, shared-append, workers-append, moment_workers, ShowsScene, first_scene_shows, moment_shows}
 use Rattle.amo_driver_safety.proofs.Intents.{Reached, reach_next, performed_by_it, handing_begun}
 
--- once a job was told to p, and p has handed it to its partner, nobody does so again
+-- once p got a job, and p has handed it to its partner, nobody does so again
 module _ (g : Givens) (hs : List Happening) (w : AreOfWorkers g hs) (p : ℕ) (o : IsWorker g p) (j : ℕ) (low : 1 ≤ j) (told : told_to_perform g (shared_of g hs) p ≡ j) where
   not_here : (sc : Scene) (mid : List Moment) → Reached g hs w p o j low told None sc mid → (q : ℕ) → IsWorker g q → (t : Try) → due (stage_at sc q) ≡ Some t → has (handed_by_try t) j ≡ false
   not_here sc mid r q v (Perform n i) e = ⊎_elim

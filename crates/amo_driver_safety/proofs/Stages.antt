@@ -1,4 +1,4 @@
--- What is due at a stage, and where a process that stands there stands by what it has heard.
+-- The deed that is due at a stage, and the stage of a process by the numbers that it has read.
 use Rattle.std.proofs.Common.{◌≡◌, ◌⊎◌, inl, inr, ℕ, zero, suc, ◌≤◌, ◌+◌, Bool, true, false, refl, sym, ap, ◌∙◌, arith, List, [], ◌∷◌, ◌++◌, Option, Some, None}
 use Rattle.std.specs.Prelude.{⊤, if◌then◌else◌, ◌==◌}
 use Rattle.std.proofs.lemmas.Bool.{true≢false}
@@ -71,13 +71,13 @@ no_other (LoadAccess w) t other e = true≢false (sym other ∙ ap is_other (sym
 no_other (StoreAccess w v) t other e = true≢false (sym other ∙ ap is_other (sym e))
 no_other Nothing t other e = true≢false (sym other ∙ ap is_other (sym e))
 
--- a load is due only where the process wants it
+-- a load is due only if the process wants it
 pub load_only : (s : Stage) (w : ℕ) → due s ≡ Some (Load w) → (n : ℕ) × (a : ProcessView) × (way : Way) × (s ≡ Going n a way)
 load_only (Going s a way) w e = (s, a, way, refl)
 load_only (Asking []) w e = cc
 load_only s w e = cc
 
--- a store only where the process wants it, or leaves
+-- a store only if the process wants it, or leaves
 pub store_only : (s : Stage) (w v : ℕ) → due s ≡ Some (Store w v)
     → ((n : ℕ) × (a : ProcessView) × (way : Way) × (s ≡ Going n a way)) ⊎ ((a : ProcessView) × (s ≡ Leaving a) × (w ≡ next_word a.number) × (v ≡ 0))
 store_only (Going s a way) w v e = inl (s, a, way, refl)
@@ -99,7 +99,7 @@ performing_at s n j e =
     let same : at.0 ≡ n = ap serial_in (sym (ap due at.2) ∙ e) in
     (at.1, at.2 ∙ ap (λ x. Performing x at.1 j) same)
 
--- an intent only where it is to be put
+-- an intent only if it is to be put
 pub intending_at : (s : Stage) (n j : ℕ) → due s ≡ Some (Intend n j) → (a : ProcessView) × (s ≡ Intending n a j)
 intending_at (Intending m a i) n j e = (a, (λ k. Intending (serial_in (e k)) a (job_in (e k))))
 intending_at (Going s a way) n j e = absurd (no_other (access_of a.givens a.number a.standing) (Intend n j) refl e)
@@ -145,7 +145,7 @@ module _ (P : Stage → Type 0) where
     after_question (i ∷ rest) Garbled notes ends = ends i.serial Garbled
     after_question (i ∷ rest) Closed notes ends = ends i.serial Closed
 
--- the process that has heard these numbers since it began
+-- the process that has read these numbers since it began
 
 abbrev pub process_of : Givens → ℕ → List ℕ → ProcessView
 process_of g p hs = process_after_all (new_process g p) hs
@@ -191,7 +191,7 @@ Shown g p hs (Leaving a) = (a ≡ process_of g p hs) × (may_leave a.standing �
 Shown g p hs s = ⊤
 
 module _ (g : Givens) (p : ℕ) (hs : List ℕ) where
-  -- after a number was heard
+  -- after a number was read
 
   module _ (s : ℕ) (a : ProcessView) (is : a ≡ process_of g p hs) where
     jobs_shown : (t d : ℕ) → told_by a.standing ≡ t → doubted_by a.standing ≡ d → Shown g p hs (stage_by_jobs s a t d)
@@ -223,7 +223,7 @@ module _ (g : Givens) (p : ℕ) (hs : List ℕ) where
   asked_shown : (intents : List Intent) (reply : Reply) → Shown g p hs (stage_asked intents reply)
   asked_shown intents reply = after_question (Shown g p hs) (λ left. tt) (λ left. tt) intents reply (λ s c way left. tt) (λ s r. tt)
 
-  -- after a deed that no process hears
+  -- after a deed that gives no process a number
 
   pub found_shown : (s : Stage) (j : ℕ) → Shown g p hs s → Shown g p hs (stage_after s (Found j))
   found_shown (Finding s a i) j f = f.0
@@ -251,7 +251,7 @@ module _ (g : Givens) (p : ℕ) (hs : List ℕ) where
   asked_for_shown (Asking intents) n line reply f = asked_shown intents reply
   asked_for_shown s n line reply f = f
 
--- what a process has heard after a deed: an access gives it one more number, where one is due
+-- the numbers that a process has read after a deed: an access gives it one more, if one is due
 
 abbrev pub heard_at : List ℕ → Stage → ℕ → List ℕ
 heard_at hs (Going s a way) v = hs ++ v ∷ []

@@ -1,4 +1,4 @@
--- What a course hands to the partner, what comes before that, and what after it.
+-- The job that a course hands to the partner, the deeds before that, and those after it.
 use Rattle.std.specs.Prelude.{◌≡◌, ⊤, ℕ, Bool, true, false, List, [], ◌∷◌, ◌++◌, Some}
 use Rattle.std.specs.List.{flat_map}
 use Rattle.amo_kk.specs.Machine.{LocalView}
@@ -27,13 +27,14 @@ use Rattle.amo_driver_safety.specs.Scene.{handed_by_try}
 abbrev pub handed_by_deeds : List Deed → List ℕ
 handed_by_deeds ds = flat_map (λ (d : Deed). handed_by_try (try_of d)) ds
 
--- The last of these deeds is the store of worker p's count of claims by which it claims job j: before it the machine wanted
--- just that store. The process that has stored it is told to perform j; its next intent is intent n.
+-- The last of these deeds is the store of worker p's count of claims by which it claims job j.
+-- Before it the machine wanted just that store. The process that has stored it is to perform j. Its
+-- next intent is intent n.
 pub record HasJustClaimed (g : Givens) (p : ℕ) (first : Stage) (deeds : List Deed) (n j : ℕ) (process : ProcessView) : Type 0 where
   pub earlier : List Deed
   pub count : ℕ
   pub is : deeds ≡ earlier ++ Stored (claim_word g p) count ∷ []
-  -- where the process stood before that store, and what its machine wanted
+  -- the process before that store, and the access that its machine wanted
   pub before : ProcessView
   pub way : Way
   pub stood : stage_after_all first earlier ≡ Going n before way
@@ -41,7 +42,7 @@ pub record HasJustClaimed (g : Givens) (p : ℕ) (first : Stage) (deeds : List D
   pub fresh : Bool
   pub standing : before.standing ≡ Some (GoingOn machine fresh)
   pub wanted : want machine.state ≡ StoreClaim count j
-  -- the process after it, and the job that it is told to perform
+  -- the process after it, and the job that it is to perform
   pub after : process ≡ process_after before 0
   pub job : told_by process.standing ≡ j
 
@@ -77,7 +78,7 @@ pub record HasJustFoundTaken (deeds : List Deed) (n : ℕ) (answer : JobResult) 
   pub is : deeds ≡ earlier ++ Intended n job ∷ Cleared n job false ∷ []
   pub unbegun : answer ≡ Unbegun
 
--- whether this tells the worker to leave
+-- whether this reply asks the worker to leave
 abbrev pub tells_to_leave : Reply → Bool
 tells_to_leave (Answered n answer Go) = false
 tells_to_leave (Answered n answer Leave) = true
@@ -93,17 +94,19 @@ note_of n (Running m way) = []
 note_of n Garbled = []
 note_of n Closed = []
 
--- These deeds try what stands in the list, from its first on and in its order; they needn't come to its end.
+-- The deeds try what stands in the list, from its first on and in its order; they needn't come to
+-- its end.
 abbrev pub AreInTurn : List Try → List Deed → Type 0
 AreInTurn ts [] = ⊤
 AreInTurn [] (d ∷ ds) = ⊥
 AreInTurn (t ∷ ts) (d ∷ ds) = (try_of d ≡ t) × AreInTurn ts ds
 
--- After the deeds of `before` worker p has handed job j to its partner by intent n, and this came in answer. In those of `after`
--- it notes the answer, then files the job, where the machine that has it in its hand wants that, and then takes its
--- announcement back: in this order, as far as it comes, and nothing else.
+-- After the deeds of `before` worker p has handed job j to its partner by intent n, and this is the
+-- reply. In the deeds of `after` it notes the reply, then files the job, if the machine that has it
+-- in its hand wants that. Then it takes its announcement back. It does this in this order, as far
+-- as it comes, and nothing else.
 pub record TakesLeave (g : Givens) (p : ℕ) (first : Stage) (before : List Deed) (n j : ℕ) (reply : Reply) (after : List Deed) : Type 0 where
-  -- where the process stood that has handed it over, and what its machine wanted
+  -- the process that has handed it over, and the access that its machine wanted
   pub process : ProcessView
   pub stood : stage_after_all first before ≡ Performing n process j
   pub machine : LocalView

@@ -1,4 +1,4 @@
--- What the process of a worker has done since it began, in a history.
+-- The deeds of a worker's process since it began, in a history.
 use Rattle.std.specs.Prelude.{◌≡◌, ℕ, List, [], ◌∷◌, ◌++◌, Option, Some, None, ◌==◌, if◌then◌else◌}
 use Rattle.amo_givens.specs.declared.givens.Givens.{Givens}
 use Rattle.amo_driver.specs.declared.model.Deed.{Deed}
@@ -17,7 +17,7 @@ pub record Log : Type 0 where
   pub serial : ℕ
   pub deeds : List Deed
 
--- with one more deed, where there is a process
+-- with one more deed, if there is a process
 abbrev pub with_more : Option Log → Deed → Option Log
 with_more None d = None
 with_more (Some l) d = Some (record l { deeds = l.deeds ++ d ∷ [] })

@@ -1,4 +1,4 @@
--- Processes over one list of shared words, each doing what is due where it stands.
+-- Processes over one list of shared words, each doing what is due at its stage.
 use Rattle.std.specs.Prelude.{◌≡◌, ⊤, ℕ, List, [], ◌∷◌, ◌++◌, Some, set, slice_index, replicate}
 use Rattle.amo_sets.specs.Lists.{numbered, put, table}
 use Rattle.amo_givens.specs.Givens.{IsWorker}
@@ -22,7 +22,7 @@ pub record Scene : Type 0 where
 abbrev pub first_scene : Givens → Scene
 first_scene g = record { words = replicate (word_count g) 0; stages = table g.workers (λ _. Gone) }
 
--- where the process of worker p stands
+-- the stage of the process of worker p
 abbrev pub stage_at : Scene → ℕ → Stage
 stage_at s p = numbered Gone s.stages p
 
@@ -47,7 +47,8 @@ abbrev pub IsTrue : List ℕ → Deed → Type 0
 IsTrue words (Loaded w v) = v ≡ slice_index words w
 IsTrue words d = ⊤
 
--- this may happen next: a process does what is due, or it comes about behind its back, and a load is true
+-- this may happen next: a process does what is due, or it comes about unknown to the process, and a
+-- load is true
 abbrev pub MayBe : Givens → Scene → Moment → Type 0
 MayBe g s (Does p d) = IsWorker g p × (due (stage_at s p) ≡ Some (try_of d)) × IsTrue s.words d
 MayBe g s (Loses p t) = IsWorker g p × (due (stage_at s p) ≡ Some t)

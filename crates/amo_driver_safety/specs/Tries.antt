@@ -1,4 +1,4 @@
--- What moments try, and of whom they are.
+-- The tries of moments, and their workers.
 use Rattle.std.specs.Prelude.{◌≢◌, ⊤, ℕ, List, [], ◌∷◌, Option, Some, None}
 use Rattle.amo_driver.specs.declared.model.Try.{Try}
 use Rattle.amo_driver.specs.Course.{try_of}

@@ -19,17 +19,17 @@ ghost use Rattle.amo_driver_safety.specs.Tries.{worker_of, tried_in, NoneBegins}
 ghost use Rattle.amo_driver_safety.specs.declared.model.Moment.{Moment};
 ghost use Rattle.amo_driver_safety.specs.declared.model.Moment.TheVariants.{Does, Loses};
 
-/// Over any number of processes, which die at any point and begin again, and whose accesses are
-/// interleaved in any way over one list of words, each job is handed to a partner at most once,
-/// whether the partner answers, the call fails, or the process dies in it; and so it is performed
-/// at most once.
+/// States that jobs are performed once, over any number of processes, which die at any point and
+/// begin again. Their accesses are interleaved in any way over one list of words. Each job is
+/// handed to a partner at most once, whether the partner replies, the call fails, or the process
+/// dies in it. So it is performed at most once.
 pub fn jobs_are_performed_once()
     ensures { (g : Givens) (ms : List Moment) → IsHistory g ms → AreDistinct (handed_jobs ms) }
 {}
 
-/// Of each job one intent is tried at most, whether it comes about or not, and none once the job
-/// was handed over. Who hands it over is the process that has tried its intent, by that very
-/// intent: no later process of that worker does so, and no other worker.
+/// States that at most one intent of each job is tried, whether it comes about or not, and none
+/// once the job was handed over. The process that has tried the intent hands the job over, by that
+/// very intent. No later process of that worker does so, and no other worker.
 pub fn a_job_is_handed_over_by_its_intent()
     ensures one { (g : Givens) (before mid : List Moment) (x y : Moment) (n m j : ℕ) → IsHistory g (before ++ x ∷ mid ++ y ∷ [])
         → tried_in x ≡ Some (Intend n j) → tried_in y ≡ Some (Intend m j) → ⊥ }
@@ -39,21 +39,21 @@ pub fn a_job_is_handed_over_by_its_intent()
         → tried_in x ≡ Some (Intend n j) → tried_in y ≡ Some (Perform m j) → (worker_of x ≡ worker_of y) × (n ≡ m) × NoneBegins (worker_of x) mid }
 {}
 
-/// Where a process stands in a history is where what it has done since it began leads, each deed of
-/// which was due.
+/// States that the stage of a process in a history is the one that its deeds since it began lead
+/// to. Each of these deeds was due.
 pub fn stages_are_courses()
     ensures { (g : Givens) (ms : List Moment) (p : ℕ) → IsHistory g ms → IsWorker g p → StandsBy g p (log_of p ms) (stage_at (scene_of g ms) p) }
 {}
 
-/// A process that records its deeds is at the stage after them: each deed more that was due moves
-/// it on, as `Outside` and `Past` ensure of each call.
+/// States that a process that records its deeds is at the stage after them. Each further deed that
+/// was due moves it on, as `Outside` and `Past` ensure of each call.
 pub fn records_tell_where_it_stands()
     ensures { (first : Stage) (ds : List Deed) (d : Deed) → Moves (Stands first ds) (Stands first (ds ++ d ∷ [])) d }
 {}
 
-/// The contract of `work` says of a log as much as a history asks of its worker. A call that it may
-/// make, by its log, may come about, also if the process dies in it. A deed that was due, and is
-/// true of the words, may be done.
+/// States that the contract of `work` says of a log as much as a history asks of its worker. A call
+/// that it may make, by its log, may come about, also if the process dies in it. A deed that was
+/// due, and is true of the words, may be done.
 pub fn workers_do_right()
     ensures calls { (g : Givens) (ms : List Moment) (p : ℕ) (l : Log) (t : Try) → IsHistory g ms → IsWorker g p → log_of p ms ≡ Some l
         → MayCall (Stands (first_stage g p l.serial) l.deeds) t → MayBe g (scene_of g ms) (Loses p t) }
@@ -61,50 +61,50 @@ pub fn workers_do_right()
         → AreDue (first_stage g p l.serial) (l.deeds ++ d ∷ []) → IsTrue (scene_of g ms).words d → MayBe g (scene_of g ms) (Does p d) }
 {}
 
-/// There are histories in which jobs are performed, in which one is handed to a partner while its
-/// process dies, and in which a store comes about of which its process never learns. There are also
-/// histories in which a job is found taken, and another job is performed.
+/// States that histories exist in which jobs are performed. In them one job is handed to a partner
+/// while its process dies. A store comes about of which its process never learns. A job is found
+/// taken, and another job is performed.
 pub fn histories_there_are()
     ensures handed { (g : Givens) × (ms : List Moment) × IsHistory g ms × (handed_jobs ms ≡ 1 ∷ 2 ∷ []) }
     ensures taken { (g : Givens) × (before : List Moment) × (after : List Moment) × IsHistory g (before ++ Does 1 (Cleared 1 1 false) ∷ after)
         × (handed_jobs (before ++ Does 1 (Cleared 1 1 false) ∷ after) ≡ 2 ∷ []) }
 {}
 
-/// Nothing follows a failure, nor a stage at which nothing is due: so nothing a number that can't
-/// be, something else than the answer that was awaited, or leaving.
+/// States that nothing follows a failure, or a stage at which nothing is due. So nothing follows an
+/// impossible number, a reply that wasn't awaited, or a leave.
 pub fn courses_end_there()
     ensures ended { (s : Stage) (before after : List Deed) → AreDue s (before ++ after) → due (stage_after_all s before) ≡ None → after ≡ [] }
     ensures fell { (s : Stage) (before after : List Deed) (t : Try) → AreDue s (before ++ Fell t ∷ after) → after ≡ [] }
 {}
 
-/// In one course no job is handed to the partner twice, whether the partner has answered or the
-/// call has failed. That holds whatever the loads of the course have given: of the other workers
-/// nothing is supposed.
+/// States that in one course no job is handed to the partner twice, whether the partner has replied
+/// or the call has failed. It holds whatever the loads of the course have given: nothing is assumed
+/// of the other workers.
 pub fn courses_perform_once()
     ensures { (g : Givens) (p s : ℕ) (deeds : List Deed) → IsWorker g p → AreDue (first_stage g p s) deeds → AreDistinct (handed_by_deeds deeds) }
 {}
 
-/// Right before a job is handed to the partner, also if that fails, it was said to be clear.
-/// Right before that its intent was put, and right before the intent its claim was stored: the
-/// worker's count of claims, in its place, which is what the machine wanted. The store is one of
-/// this course: a claim that a former process has left doesn't do.
+/// States the order of deeds before a performance. Right before a job is handed to the partner,
+/// also if that fails, it was found clear. Right before that its intent was put. Right before the
+/// intent its claim was stored: the worker's count of claims, in its place, which the machine
+/// wanted. The store is one of this course: a claim that a former process has left isn't enough.
 pub fn performances_follow_intents()
     ensures { (g : Givens) (p s n j : ℕ) (before after : List Deed) (d : Deed) → try_of d ≡ Perform n j
         → AreDue (first_stage g p s) (before ++ d ∷ after) → HasJustCleared g p (first_stage g p s) before n j }
 {}
 
-/// A job that the worker's own words show claimed and not filed when its process begins isn't
-/// handed to the partner in this course, neither before that is said nor after it, also where the
-/// saying fails. So what a former process of the worker may have had performed isn't performed
-/// again in it.
+/// States that a job that was found claimed and not filed isn't performed again. The worker's own
+/// words show it when its process begins. It isn't handed to the partner in this course, neither
+/// before it is reported nor after that, also if the report fails. So a job that a former process
+/// of the worker may have had performed isn't performed again in it.
 pub fn what_is_found_is_not_performed()
     ensures { (g : Givens) (p s j : ℕ) (before after : List Deed) (d : Deed) → IsWorker g p → try_of d ≡ Find j
         → AreDue (first_stage g p s) (before ++ d ∷ after) → has (handed_by_deeds (before ++ d ∷ after)) j ≡ false }
 {}
 
-/// A job is handed to the partner only right after it was said to be clear, whatever happens. The
-/// process asks for that only right after the intent of the job was put. No other deed is between
-/// them.
+/// States that a job is handed to the partner only right after it was found clear, whatever
+/// happens. The process asks for that only right after the intent of the job was put. No other deed
+/// is between them.
 pub fn the_driver_hands_over_only_what_is_clear()
     ensures clear { (g : Givens) (p s n j : ℕ) (before after : List Deed) (d : Deed) → try_of d ≡ Perform n j
         → AreDue (first_stage g p s) (before ++ d ∷ after) → (earlier : List Deed) × (before ≡ earlier ++ Intended n j ∷ Cleared n j true ∷ []) }
@@ -112,16 +112,17 @@ pub fn the_driver_hands_over_only_what_is_clear()
         → AreDue (first_stage g p s) (before ++ d ∷ after) → (earlier : List Deed) × (before ≡ earlier ++ Intended n j ∷ []) }
 {}
 
-/// After a job was found taken, the process does first this, in this order, and as far as it comes:
-/// it notes that the job wasn't begun, and files the job at its place of the row. So a taken intent
-/// is noted before anything else is intended, unless the process ends.
+/// States the deeds after a job was found taken, in this order, and as far as the process comes. It
+/// notes that the job wasn't begun, and files the job at its place of the row. So a taken intent is
+/// noted before anything else is intended, unless the process ends.
 pub fn what_is_taken_is_noted_as_unbegun()
     ensures { (g : Givens) (p s n j : ℕ) (before after : List Deed) → AreDue (first_stage g p s) (before ++ Cleared n j false ∷ after)
         → PassesOver g p (first_stage g p s) before n j after }
 {}
 
-/// Nobody hands over a job that was found taken, neither before nor after that. This holds for the
-/// process that found it, for each later process of its worker, and for each other worker.
+/// States that nobody hands over a job that was found taken, neither before nor after that. This
+/// holds for the process that found it, for each later process of its worker, and for each other
+/// worker.
 pub fn what_is_taken_is_not_performed()
     ensures before { (g : Givens) (before mid : List Moment) (x : Moment) (p n m j : ℕ) → IsHistory g (before ++ x ∷ mid ++ Does p (Cleared m j false) ∷ [])
         → tried_in x ≡ Some (Perform n j) → ⊥ }
@@ -129,19 +130,19 @@ pub fn what_is_taken_is_not_performed()
         → tried_in y ≡ Some (Perform m j) → ⊥ }
 {}
 
-/// What is noted, also where that fails, is what the partner has answered right before, to that
-/// very intent, or that its job wasn't begun, if the job was found taken right before, and its
-/// intent put right before that. So of a job that was handed over nothing is noted that wasn't
-/// answered in this course, and no answer is noted twice.
+/// States that a note, also one that fails, is the reply that the partner gave right before, to
+/// that very intent. The one exception is the note that a job wasn't begun, if the job was found
+/// taken right before, and its intent put right before that. So of a job that was handed over
+/// nothing is noted that wasn't a reply in this course, and no reply is noted twice.
 pub fn notes_say_what_was_answered()
     ensures { (g : Givens) (p s n : ℕ) (a : JobResult) (before after : List Deed) (d : Deed) → try_of d ≡ Note n a
         → AreDue (first_stage g p s) (before ++ d ∷ after) → HasJustAnswered before n a ⊎ HasJustFoundTaken before n a }
 {}
 
-/// After an answer that tells the worker to leave, the process does nothing but this, in this
-/// order, each at most once, and as far as it comes: it notes the answer, unless the job still
-/// runs, files the job at its place of the row, and takes the worker's announcement back. It loads
-/// nothing any more, claims nothing, and hands over no other job.
+/// States the deeds after a reply that asks the worker to leave: each at most once, in this order,
+/// and as far as the process comes. It notes the reply, unless the job still runs. It files the job
+/// at its place of the row, and takes the worker's announcement back. It loads nothing any more,
+/// claims nothing, and hands over no other job.
 pub fn who_is_told_to_leave_leaves()
     ensures { (g : Givens) (p s n j : ℕ) (reply : Reply) (before after : List Deed) → tells_to_leave reply ≡ true
         → AreDue (first_stage g p s) (before ++ Performed n j reply ∷ after) → TakesLeave g p (first_stage g p s) before n j reply after }

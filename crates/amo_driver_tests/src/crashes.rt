@@ -1,6 +1,6 @@
-//! Lives of three workers over eight lines, in three rounds. Each is killed at some call, and the
-//! power is cut at one call of a disk: what was written or cut since the last sync is torn then.
-//! What was performed is counted, and the files are read by eye.
+//! Lives of three workers over eight lines, in three rounds. Each is killed at some call. The power
+//! is cut at one call of a disk, and tears the bytes that were written or cut since the last sync.
+//! The tests count the performances, and read the files by eye.
 ghost use Rattle.std.specs.Prelude.{⊤};
 
 use amo_driver::{
@@ -43,19 +43,19 @@ impl Chance {
     }
 }
 
-/// What comes of a call.
+/// The fate of a call.
 #[derive(Clone, Copy, PartialEq, Eq)]
 enum Fate {
-    /// It is made, and the process hears of it.
+    /// The call is made, and the process gets its result.
     Heard,
-    /// It is made, and the process is killed before it hears of it.
+    /// The call is made, and the process is killed before it gets the result.
     Unheard,
     /// The process is killed before it is made.
     Unmade,
 }
 
 impl Fate {
-    /// What the process hears of a call that is made.
+    /// Returns what the process gets of a call that is made.
     fn heard<T: Drop>(self, value: T) -> Result<T, Failed> {
         match self {
             Fate::Heard => Ok(value),
@@ -64,20 +64,20 @@ impl Fate {
     }
 }
 
-/// The journals of all workers, the words of the round, and what was performed in truth.
+/// The journals of all workers, the words of the round, and the true performances.
 #[derive(Drop)]
 struct Run {
     alloc: Global,
     chance: Chance,
     /// The file of each worker's journal, as it is read.
     files: Vec<Vec<u8>>,
-    /// The shared words. There are none once the power was cut.
+    /// The shared words. The list is empty once the power was cut.
     words: Vec<u64>,
     /// The line of each job of the round.
     lines: Vec<u64>,
     /// Each performance: whose it was, the serial number of its intent, and the line.
     performed: Vec<(u64, u64, u64)>,
-    /// Who is at work, from 1.
+    /// The worker that is at work, from 1.
     worker: u64,
     /// How many calls it makes before it is killed.
     calls_left: u64,
@@ -85,8 +85,8 @@ struct Run {
     disk_calls: u64,
     /// The call of a disk at which the power is cut, once, counted from 0.
     cut_at: u64,
-    /// Whether an intent is put when it is asked for, as it has to be, or only once its performance
-    /// has been answered.
+    /// True if an intent is put when it is asked for, as it must be. False if it is put only after
+    /// its performance.
     is_prompt: bool,
     /// The intent that is still to be put.
     late: Option<Entry>,
@@ -117,7 +117,7 @@ impl Run {
         })
     }
 
-    /// What comes of the next call.
+    /// Returns the fate of the next call.
     fn fate(&mut self) -> Fate {
         if self.calls_left > 0 {
             self.calls_left -= 1;
@@ -130,8 +130,8 @@ impl Run {
         }
     }
 
-    /// Puts an entry, and in front of it the answer that is owed, into the journal of who is at
-    /// work, which is opened for that.
+    /// Puts an entry, and before it the outcome that is owed, into the journal of the worker at
+    /// work. It opens the journal for that.
     fn put(&mut self, entry: Entry) -> Result<(), Failed> {
         let at = self.worker.saturating_sub(1) as usize;
         if at >= self.files.len() {
@@ -171,7 +171,7 @@ impl Run {
         }
     }
 
-    /// The line of a job, or 0.
+    /// Returns the line of a job, or 0.
     fn line_of(&self, job: u32) -> u64 {
         match self.lines.get(job.saturating_sub(1) as usize) {
             Some(line) => *line,
@@ -302,7 +302,7 @@ impl Past for Run {
     }
 }
 
-/// The entry of an answer.
+/// Returns the entry of an answer.
 fn answer_entry(serial: u64, answer: Became) -> Entry {
     let answer = match answer {
         Became::Done(code) => Outcome::Done { code, time: 0 },
@@ -359,8 +359,8 @@ impl Run {
         Ok(())
     }
 
-    /// Returns true if no line was performed twice, and the ledger says of the files what the eye
-    /// sees in them.
+    /// Returns true if no line was performed twice, and the ledger agrees with the files as the eye
+    /// reads them.
     fn is_sound(&self) -> Result<bool, Fail> {
         let mut open = Vec::new(self.alloc);
         for line in 1..=LINES {
@@ -396,13 +396,13 @@ fn first() -> Checksum {
     Checksum::first(b"run", b"journal")
 }
 
-/// The journal that a file holds.
+/// Returns the journal that a file holds.
 fn attempts_in(alloc: Global, file: &[u8]) -> Result<Vec<Attempt>, Fail> {
     let log = read_log(alloc, &first(), file)?;
     Ok(read_attempts(alloc, LINES, &log.records)?)
 }
 
-/// The lines that are open by these files.
+/// Returns the lines that are open by these files.
 fn open_by(alloc: Global, files: &[Vec<u8>]) -> Result<Vec<u64>, Fail> {
     let mut journals = Vec::new(alloc);
     for file in files {
@@ -411,7 +411,7 @@ fn open_by(alloc: Global, files: &[Vec<u8>]) -> Result<Vec<u64>, Fail> {
     Ok(open_lines(alloc, &[], &journals, LINES as usize)?)
 }
 
-/// The entries in a file, as texts without checksums, up to the first gate that is closed.
+/// Returns the entries in a file, as texts without checksums, up to the first gate that is closed.
 fn texts_by_eye<'a>(alloc: Global, file: &'a [u8]) -> Result<Vec<&'a str>, Fail> {
     let mut texts = Vec::new(alloc);
     for line in str::from_utf8(file)?.split_inclusive('\n') {
@@ -430,7 +430,7 @@ fn texts_by_eye<'a>(alloc: Global, file: &'a [u8]) -> Result<Vec<&'a str>, Fail>
     Ok(texts)
 }
 
-/// How many intents in a file have no answer: each answer is of one.
+/// Returns how many intents in a file have no answer: each answer is of one.
 fn pending_by_eye(alloc: Global, file: &[u8]) -> Result<usize, Fail> {
     let texts = texts_by_eye(alloc, file)?;
     let intents = texts
@@ -460,7 +460,7 @@ fn is_open_by_eye(alloc: Global, file: &[u8], line: u64) -> Result<bool, Fail> {
     Ok(true)
 }
 
-/// What a cut of the power leaves of a disk.
+/// Returns the bytes that a cut of the power leaves of a disk.
 fn torn(alloc: Global, disk: &Disk, chance: &mut Chance) -> Result<Vec<u8>, AllocError> {
     let mut came = Vec::new(alloc);
     for call in disk.calls() {
@@ -473,8 +473,8 @@ fn torn(alloc: Global, disk: &Disk, chance: &mut Chance) -> Result<Vec<u8>, Allo
     disk.image_after(alloc, disk.calls().len(), &fronts)
 }
 
-/// What came to the disk of a call that wasn't synced: of its bytes a front, some of which are
-/// gates in their place.
+/// Returns the bytes of a call that came to the disk before a sync: a front of its bytes, and gates
+/// in the places of some.
 fn came_of(alloc: Global, call: &Call, chance: &mut Chance) -> Result<Vec<u8>, AllocError> {
     let mut came = Vec::new(alloc);
     let bytes = match call {
@@ -493,7 +493,7 @@ fn came_of(alloc: Global, call: &Call, chance: &mut Chance) -> Result<Vec<u8>, A
     Ok(came)
 }
 
-/// A whole run: three rounds of six lives each.
+/// Returns a whole run: three rounds of six lives each.
 fn three_rounds(alloc: Global, seed: u64, cut_at: u64, is_prompt: bool) -> Result<Run, Fail> {
     let mut run = Run::new(alloc, seed, cut_at, is_prompt)?;
     for _ in 0..3 {
@@ -522,8 +522,8 @@ fn no_line_is_performed_twice_wherever_the_power_is_cut(rt: HostRuntime) -> Resu
     Ok(())
 }
 
-// The audit can fail: where an intent is put only after its performance was answered, lines are
-// performed twice.
+// The control of the audit: if an intent is put only after its performance, lines are performed
+// twice.
 #[test]
 fn late_intents_let_lines_be_performed_twice(rt: HostRuntime) -> Result<(), Fail> {
     let mut unsound = 0u64;

@@ -4,7 +4,7 @@ ghost use Rattle.std.specs.Prelude.{⊤};
 use amo_driver::{Failed, JobResult, LifeEnd, Outside, Reply, Stop, Way, work};
 use amo_givens::Givens;
 
-/// The job of this intent has ended with code 7.
+/// Returns the job of this intent has ended with code 7.
 fn done(serial: u64) -> Reply {
     Reply::Answered(serial, JobResult::Done(7), Way::Go)
 }

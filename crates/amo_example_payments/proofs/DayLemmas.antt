@@ -1,4 +1,4 @@
--- What the lines of a day say together, line by line.
+-- The day that lines say together, line by line.
 use Rattle.std.proofs.Common.{◌≡◌, ℕ, zero, suc, ◌+◌, ◌<◌, Bool, ◌||◌, List, [], ◌∷◌, ◌++◌, length, map, get_or, take, Some, None, refl, sym, ap, ◌∙◌, append-nil, subst, arith}
 use Rattle.std.specs.Prelude.{is_none, not, true}
 use Rattle.std.specs.List.{flat_map, list_any}
@@ -58,7 +58,7 @@ any_at now p [] i d within h = absurd (omega (arith, within))
 any_at now p (y ∷ ys) zero d within h = ap (λ b. b || list_any p (map now ys)) h
 any_at now p (y ∷ ys) (suc i) d within h = or_right (p (now y)) (list_any p (map now ys)) (any_at now p ys i d (omega (arith, within)) h)
 
--- a line is none
+-- a line is invalid
 pub broken : {X : Type 0} (now : X → List ℕ) (xs : List X) (i : ℕ) (d : X) (text : List ℕ) → map now xs ≡ lines text → i < length xs → line_in (now (get_or xs i d)) ≡ None
     → has_broken_line text ≡ true
 broken now xs i d text all within none =

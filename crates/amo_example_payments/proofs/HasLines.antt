@@ -63,7 +63,7 @@ each_line word (x ∷ xs) =
     All-cons (λ p. HasLine (lines_of word (x ∷ xs)) word p.id) x xs (line_here word x.id (lines_of word xs))
     (All-weaker (λ p. HasLine (lines_of word xs) word p.id) (λ p. HasLine (lines_of word (x ∷ xs)) word p.id) (λ p h. line_after (line word x.id) (lines_of word xs) word p.id (ended_line word x.id) h) xs (each_line word xs))
 
--- ---- so does what is told of a payment
+-- ---- so do the lines on a payment
 
 told_in : (t u : List ℕ) (p : Payment) → ((word : List ℕ) → HasLine t word p.id → HasLine u word p.id) → IsTold t p → IsTold u p
 told_in t u p f (inl h) = inl (f (codes "before") h)

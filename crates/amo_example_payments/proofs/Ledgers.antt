@@ -1,4 +1,5 @@
--- What stands in a day's journal after a call, which intents do, and faults that opening it ends with.
+-- The content of a day's journal after a call, the intents that stand, and the faults of opening
+-- it.
 use Rattle.std.proofs.Common.{◌≡◌, ℕ, Bool, true, false, List, [], ◌∷◌, ◌++◌, Option, Some, None, Result, Ok, Err, cond, zero, suc, refl, sym, ap, ◌∙◌, ⊎_elim, ◌⊎◌}
 use Rattle.std.specs.Prelude.{option_and_then, option_map, is_none, ◌||◌, ◌&&◌, ◌==◌, not}
 use Rattle.std.proofs.lemmas.Bool.{true≢false}
@@ -25,12 +26,13 @@ known_more lines old new es fs e put is known = go (entries_of old) refl known
     go None at none = absurd (cc)
     go (Some entries) at some = ap (option_and_then (λ (xs : List LedgerEntry). journal_of lines xs)) (put entries at) ∙ journal_push lines [] es entries e some ∙ is
 
--- the fault of a result, where it is one
+-- the fault of a result, if it has one
 abbrev pub fault_in : {T : Type 0} → Result T Fault → Fault → Fault
 fault_in (Ok x) f = f
 fault_in (Err e) f = e
 
--- a fault of one kind, or that there was no memory, is none of the others that come before anything is written
+-- a fault of one kind, or want of memory, is different from the others that come before anything is
+-- written
 pub none_of : (is : Fault → Bool) (f g : Fault) → (is f ≡ true) ⊎ (f ≡ Memory) → f ≡ g → is g ≡ false → is_early g ≡ true → ⊥
 none_of is f g of same isnt early = ⊎_elim (λ t. true≢false (sym t ∙ ap is same ∙ isnt)) (λ m. true≢false (sym early ∙ ap is_early (sym same ∙ m))) of
 

@@ -1,4 +1,4 @@
--- What a round is sorted into.
+-- The sorted jobs of a round.
 use Rattle.std.proofs.Common.{◌≡◌, ℕ, List, length, replicate, Ok, Err, IfOk, IfErr, subst, sym}
 use Rattle.std.specs.Prelude.{Result}
 use Rattle.amo_givens.specs.Givens.{givens_of}

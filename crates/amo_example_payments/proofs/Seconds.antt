@@ -1,4 +1,4 @@
--- What one worker leaves on a floor of its own.
+-- The rest that one worker leaves on a floor of its own.
 use Rattle.std.proofs.Common.{◌≡◌, ℕ, ◌-◌, Bool, true, false, not, ◌||◌, List, [], ◌∷◌, ◌++◌, length, filter, replicate, slice_get, slice_set, refl, sym, ap, ◌∙◌, subst, arith, append-nil}
 use Rattle.std.specs.Prelude.{All}
 use Rattle.std.specs.List.{enumerate_from}
@@ -27,7 +27,7 @@ use Rattle.amo_example_payments.specs.Second.{IsLeftover}
 use Rattle.amo_example_payments.specs.Stopping.{HasPaid, IsEmpty}
 use Rattle.amo_example_payments.proofs.Filters.{free_filtered}
 
--- where there is one worker, what is claimed is what it has claimed
+-- a lone worker has claimed all that is claimed
 single : (all : List Process) → length all ≡ 1 → (j : ℕ) → is_claimed all j ≡ has (numbered nobody all 1).local.claimed j
 single [] n j = absurd (omega (arith, n))
 single (a ∷ []) n j = none (has a.local.claimed j)

@@ -149,7 +149,7 @@ module _ (payments : List Payment) (j : ℕ) (p : Payment) (at : slice_get payme
       go more true e n = let first = All-head (IsRelated Answers payments) x xs all in here x.out first.0 (own first.0 (eqb-true x.job j e) first.1) first.2
       go more false e n = more n
 
--- ---- all of a round, and of a floor of one worker: what is free holds, and what is told
+-- ---- all of a round, and of a floor of one worker: the free jobs and the written lines
 
 round_ended : (s : Sorted) → is_ended (round_text s) ≡ true
 round_ended s = ended_append (done_lines s.answers.items) (doubt_lines s.in_doubt.items) (ended_flat (λ x. done_line x.out) s.answers.items ended_done) (ended_flat (λ t. line (codes "doubt") t.1) s.in_doubt.items (λ t. ended_line (codes "doubt") t.1))
@@ -207,7 +207,7 @@ of_floors {X} Is free_in text_of Q of_one ended (f ∷ fs) each free_are told =
     texts : List ℕ
     texts = flat_map (λ (g : List Payment × X). text_of g.1) fs
 
--- where no payment waits for a floor
+-- no payment waits for a floor
 all_floors : {X : Type 0} (Is : List Payment → X → Type 0) (free_in : X → List (ℕ × Payment)) (text_of : X → List ℕ) (Q : Payment → Type 0)
     → ((payments : List Payment) (x : X) → Is payments x → All Q (payments_of (free_in x)) → ((p : Payment) → IsTold (text_of x) p → Q p) → All Q payments) → ((x : X) → is_ended (text_of x) ≡ true)
     → (payments free : List Payment) (text : List ℕ) → AreFloors Is free_in text_of payments [] free text → All Q free → ((p : Payment) → IsTold text p → Q p) → All Q payments

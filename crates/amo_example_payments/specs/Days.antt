@@ -1,4 +1,4 @@
--- What the lines of the input say together.
+-- The day that the lines of the input say together.
 use Rattle.std.specs.Prelude.{◌≡◌, ℕ, ◌+◌, ◌-◌, ◌^◌, Bool, true, not, ◌==◌, ◌||◌, List, [], ◌∷◌, ◌++◌, length, map, fold, slice_index, Some, is_none}
 use Rattle.std.specs.List.{flat_map, list_any, range_with_len}
 use Rattle.std.specs.Str.Lines.{lines}
@@ -45,7 +45,7 @@ pub record IsDayWith (b : Day) (line : Line) (c : Day) : Type 0 where
 abbrev pub paid_in : Line → List (ℕ × ℕ)
 paid_in line = map (λ p. (p.account, p.cents)) (payments_in 1 line)
 
--- What a day without lines is: one worker, and no limit.
+-- the crew of a day without lines: one worker, and no limit
 abbrev pub first_crew : Crew
 first_crew = record { workers = 1; steps = MAX_STEPS }
 
@@ -68,6 +68,6 @@ pub record IsDayOf (text : List ℕ) (day : Day) : Type 0 where
   pub lines_are : map line_in (lines text) ≡ map (λ line. Some line) said
   pub day_is : IsDay said day
 
--- some line of the text is none, or the last has no end
+-- some line of the text is invalid, or the last has no end
 abbrev pub has_broken_line : List ℕ → Bool
 has_broken_line text = list_any (λ line. is_none (line_in line)) (lines text) || not (is_ended text)

@@ -1,4 +1,4 @@
--- What a fault can be of.
+-- The faults that end a day early, by what they are of.
 use Rattle.std.specs.Prelude.{◌≡◌, ◌⊎◌, ℕ, Bool, true, false, ◌||◌, List, Some}
 use Rattle.amo_journal.specs.declared.device.DeviceError.{DeviceError}
 use Rattle.amo_journal.specs.declared.device.DeviceError.TheVariants.{Memory as NoMemory, Failed}
@@ -59,7 +59,7 @@ is_of_input Input = true
 is_of_input Crew = true
 is_of_input fault = false
 
--- the journal can't be had, or is none of that day
+-- the journal can't be read, or is that of another day
 abbrev pub is_of_journal : Fault → Bool
 is_of_journal Journal = true
 is_of_journal (Damaged n kind) = true

@@ -31,6 +31,6 @@ line_of_word word rest =
     else (if bytes_eq word (codes "pay") then payment_in rest
     else None)))
 
--- what a line says, or None where it is no line
+-- what a line says, or None if it is invalid
 abbrev pub line_in : List ℕ → Option Line
 line_in text = if has_blank text then line_of_word (first_word text) (other_words text) else None

@@ -1,4 +1,4 @@
--- What belongs to a payment.
+-- The order and the receipt of a payment.
 use Rattle.std.specs.Prelude.{◌≡◌, ℕ, List, ◌++◌, codes}
 use Rattle.std.specs.Fmt.{decimal}
 use Rattle.amo_example_payments.specs.declared.day.payment.Payment.{Payment}
@@ -13,11 +13,11 @@ pub record IsReceiptOf (job : ℕ) (p : Payment) (r : Receipt) : Type 0 where
   pub account : r.account ≡ p.account
   pub cents : r.cents ≡ p.cents
 
--- what the bank is told of a payment: its number, its account and how much
+-- the order of a payment to the bank: its number, its account and the amount
 abbrev pub order_line : Payment → List ℕ
 order_line p = codes "paid " ++ (decimal p.id ++ (codes " " ++ (decimal p.account ++ (codes " " ++ (decimal p.cents ++ codes "\n")))))
 
--- what a bank answers: a receipt of this payment as this job, or the payment itself
+-- the reply of a bank: a receipt of this payment as this job, or the payment itself
 abbrev pub Answers : ℕ → ℕ → Payment → BankReply → Type 0
 Answers worker job p (Paid r) = IsReceiptOf job p r
 Answers worker job p (Unpaid q) = q ≡ p

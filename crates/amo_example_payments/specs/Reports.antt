@@ -1,4 +1,4 @@
--- What is written of a day.
+-- The report of a day.
 use Rattle.std.specs.Prelude.{◌≡◌, ◌⊎◌, ℕ, true, List, [], ◌++◌, map, filter, All, Option, Some, IfSome, length, codes}
 use Rattle.std.specs.List.{flat_map}
 use Rattle.std.specs.Io.KnownBytes.{Appends, Keeps}
@@ -57,8 +57,9 @@ leftover_text r = answer_lines r.outputs.items
 abbrev pub payments_of : List (ℕ × Payment) → List Payment
 payments_of free = map (λ t. t.1) free
 
--- What came of payments that went onto floors, one floor after the other: `rest` are those that no floor had, `free` those
--- that a floor gave back since nobody began them, and `text` is what is written of all floors.
+-- The result of payments that went onto floors, one floor after the other. `rest` are the payments
+-- that no floor had. `free` are those that a floor gave back since nobody began them. `text` is the
+-- report on all floors.
 pub record AreFloors {X : Type 0} (Is : List Payment → X → Type 0) (free_in : X → List (ℕ × Payment)) (text_of : X → List ℕ) (payments rest free : List Payment) (text : List ℕ) : Type 0 where
   pub floors : List (List Payment × X)
   pub whole : payments ≡ flat_map (λ f. f.0) floors ++ rest
@@ -82,10 +83,11 @@ TellsNext Are payments rest free more old new = (added : List Payment) × (text 
 abbrev pub TellsPart : (List Payment → List Payment → List Payment → List ℕ → Type 0) → List Payment → Option (List ℕ) → Option (List ℕ) → Type 0
 TellsPart Are payments old new = (rest : List Payment) × (free : List Payment) × (text : List ℕ) × Are payments rest free text × AppendsFront old new text
 
--- What is written of a day: `before` and `doubt` for what earlier runs have made or begun, by their journal, then what becomes of the others in
--- rounds, then what becomes on floors of one worker of those that nobody began there, and last `free` for each that is
--- left. Of the untried payments `waiting` came onto no round, and `late` are those that nobody began there and that
--- came onto no floor of one worker.
+-- The report of a day. It begins with `before` and `doubt` for the payments that earlier runs have
+-- made or begun, by their journal. Then it has the results of the others in rounds, and then on
+-- floors of one worker. It ends with `free` for each payment that is left. Of the untried payments
+-- `waiting` came onto no round. `late` are those that nobody began there and that came onto no
+-- floor of one worker.
 pub record IsReport (day : Day) (journal : List Attempt) (waiting late : List Payment) (text : List ℕ) : Type 0 where
   pub free : List Payment
   pub left : List Payment

@@ -1,4 +1,4 @@
--- What the journal of earlier runs says of a payment, whose line there is that of its number.
+-- The payments by the journal of earlier runs. The line of a payment in the journal is its number.
 use Rattle.std.specs.Prelude.{◌≡◌, ℕ, Bool, false, not, ◌==◌, ◌&&◌, ◌||◌, List, filter, Option, Some, None, option_and_then}
 use Rattle.std.specs.List.{list_any}
 use Rattle.amo_run_log.specs.declared.entry.Outcome.{Outcome}

@@ -30,8 +30,9 @@ pub record IsRound (crew : Crew) (payments : List Payment) (s : Sorted) : Type 0
   -- what is in doubt was performed and has no receipt, or came back in a hand, or was with a worker that was not started
   pub doubts : (j : ℕ) → has_job s.in_doubt.items j ≡ true → MayBeUnsure outcome j
 
--- What a run with these givens, payments and budgets gives back that could not be settled or sorted: the payments themselves
--- where nothing was paid, or what the threads left, or the outcome.
+-- A run with these givens, payments and budgets gives this back, since it could not be settled or
+-- sorted. It is the payments themselves if nothing was paid, or the rest that the threads left, or
+-- the outcome.
 abbrev pub IsRunFault : Givens → List Payment → List ℕ → RoundFault → Type 0
 IsRunFault g payments budgets (Unpaid back) = back.items ≡ payments
 IsRunFault g payments budgets (Unsettled rest) = IsUnsettled Answers g payments budgets rest

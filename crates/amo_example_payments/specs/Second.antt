@@ -1,4 +1,4 @@
--- What a floor of one worker leaves.
+-- The rest that a floor of one worker leaves.
 use Rattle.std.specs.Prelude.{◌≡◌, ℕ, not, List, filter, All, replicate}
 use Rattle.std.specs.List.{enumerate_from}
 use Rattle.amo_sets.specs.Sets.{has, AreDistinct}
@@ -19,8 +19,9 @@ pub record IsLeftover {P Out : Type 0} (related : ℕ → ℕ → P → Out → 
   pub distinct : AreDistinct (jobs_of r.outputs.items)
   pub free : r.free.items ≡ filter (λ t. not (has (jobs_of r.outputs.items) t.0)) (enumerate_from 1 payloads)
 
--- What is given back of a floor of these payloads: the payloads themselves where nothing was performed, or the floor as it was
--- opened, or the floor and the answers, which make a whole rest with each settlement of it.
+-- A floor of these payloads gives this back. It is the payloads themselves if nothing was
+-- performed, or the floor as it was opened, or the floor and the answers. These make a whole rest
+-- with each settlement of the floor.
 abbrev pub IsLeftoverFault : {P Out : Type 0} → (ℕ → ℕ → P → Out → Type 0) → List P → LeftoverFault P Out → Type 0
 IsLeftoverFault related payloads (Untried back) = back.items ≡ payloads
 IsLeftoverFault related payloads (Unhired floor book) = (book.table_id ≡ floor.table_id) × (book.view.payloads ≡ payloads) × (spots book ≡ replicate 1 Home)

@@ -1,4 +1,4 @@
--- What is certain of a payment after a run.
+-- The payments of a run, by what is certain of them.
 use Rattle.std.specs.Prelude.{◌≡◌, ◌⊎◌, ℕ, ◌-◌, ◌≤◌, Bool, true, false, not, ◌==◌, ◌&&◌, ◌||◌, List, length, map, filter, All, Some, slice_get}
 use Rattle.std.specs.List.{list_any, enumerate_from}
 use Rattle.amo_sets.specs.Sets.{has, AreDistinct}
@@ -29,7 +29,8 @@ has_job list j = list_any (λ t. t.0 == j) list
 abbrev pub is_unsure : List (Output BankReply) → List (ℕ × Payment) → ℕ → Bool
 is_unsure answers free j = not (has_receipt_of answers j || has_job free j)
 
--- What can be in doubt: the job was performed, or is in a hand, or was claimed by a worker whose thread could not be started.
+-- the job may be in doubt: it was performed, or is in a hand, or was claimed by a worker whose
+-- thread could not be started
 abbrev pub MayBeUnsure : Outcome Payment BankReply → ℕ → Type 0
 MayBeUnsure o j = (has (answered o) j ≡ true) ⊎ ((has (in_hand o) j ≡ true) ⊎ IsOfNoThread o j)
 
@@ -51,17 +52,19 @@ IsOwn payloads t = slice_get payloads (t.0 - 1) ≡ Some t.1
 abbrev pub IsNumberOf : List Payment → ℕ × ℕ → Type 0
 IsNumberOf payloads t = slice_get (ids_of payloads) (t.0 - 1) ≡ Some t.1
 
--- The lists are those of the outcome of a run of payments with these numbers: all its answers, its free jobs, what came back
--- from a hand, and by rising job each, once, of which there is no receipt and which is not free, with its payment's number.
+-- The lists are those of the outcome of a run of payments with these numbers: all its answers, its
+-- free jobs, and what came back from a hand. The jobs in doubt are, rising and each once, those
+-- without a receipt that are not free, each with its payment's number.
 pub record IsSortingOf (ids : List ℕ) (o : Outcome Payment BankReply) (s : Sorted) : Type 0 where
   pub answers : s.answers.items ≡ o.outputs.items
   pub free : s.free.items ≡ o.settlement.free.items
   pub in_hand : s.in_hand.items ≡ o.in_hand.items
   pub in_doubt : s.in_doubt.items ≡ filter (λ t. is_unsure s.answers.items s.free.items t.0) (enumerate_from 1 ids)
 
--- Of a run of these payments: each job is done (there is a receipt of it), or free, or in doubt, and just one of these; no job
--- has two answers, and each answer is a receipt of its job's own payment, or that payment; what is free comes with its own
--- payment, and what is in doubt with its own payment's number.
+-- A run of these payments is sorted: each job is done (with a receipt), or free, or in doubt, and
+-- just one of these. No job has two answers, and each answer is a receipt of its job's own payment,
+-- or that payment. A free job comes with its own payment, and a job in doubt with its own payment's
+-- number.
 pub record IsSorted (payloads : List Payment) (s : Sorted) : Type 0 where
   pub one : (j : ℕ) → 1 ≤ j → j ≤ length payloads → IsOneOf (has_receipt_of s.answers.items j) (has_job s.free.items j) (has_job s.in_doubt.items j)
   pub distinct : AreDistinct (jobs_of s.answers.items)

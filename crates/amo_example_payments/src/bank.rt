@@ -12,17 +12,18 @@ use std::sync::atomic::{AtomicBool, AtomicU64, Ordering};
 use std::sync::{Mutex, Wait};
 use std::time::{Clock, SystemTime, UNIX_EPOCH};
 
-/// What performing a payment gives.
+/// The result of performing a payment.
 #[derive(Debug, PartialEq, Drop)]
 pub(crate) enum BankReply {
     /// The payment was made, and its receipt stands in the journal.
     Paid(Receipt),
-    /// There is no receipt: its intent could not be put, and then it was not made; or nobody knows
-    /// whether the bank has it; or it was made, and its receipt could not be put.
+    /// The payment has no receipt. Either its intent could not be put, and it was not made. Or
+    /// nobody knows whether the bank has it. Or it was made, and its receipt could not be put.
     Unpaid(Payment),
 }
 
-/// Makes payments, and keeps their journal. Threads share it by reference.
+/// The work of this example: it makes payments, and keeps their journal. Threads share it by
+/// reference.
 #[derive(Drop)]
 pub(crate) struct Bank<'a, D: Device + Drop, S: Drop, R> {
     pub(crate) rt: &'a R,
@@ -34,8 +35,8 @@ pub(crate) struct Bank<'a, D: Device + Drop, S: Drop, R> {
     pub(crate) stop: &'a AtomicBool,
 }
 
-/// The time in seconds since 1970, or 0 where the clock can't be read: it is noted for persons and
-/// decides nothing.
+/// Returns the time in seconds since 1970, or 0 if the clock can't be read. It is noted for persons
+/// and decides nothing.
 fn now<R: Clock>(rt: &R) -> u64 {
     match SystemTime::now(rt) {
         Ok(time) => match time.duration_since(UNIX_EPOCH) {
@@ -47,8 +48,8 @@ fn now<R: Clock>(rt: &R) -> u64 {
 }
 
 impl<'a, D: Device + Drop, S: Write + Drop, R: Wait + Clock> Bank<'a, D, S, R> {
-    /// A bank with this journal, which tells its orders to the writer, and sets the flag once so
-    /// many payments were made.
+    /// Returns a bank with this journal. It writes its orders to the writer, and sets the flag once
+    /// so many payments were made.
     pub(crate) fn new(
         rt: &'a R,
         alloc: Global,
@@ -70,7 +71,7 @@ impl<'a, D: Device + Drop, S: Write + Drop, R: Wait + Clock> Bank<'a, D, S, R> {
         }
     }
 
-    /// The file of the journal, once all have paid.
+    /// Returns the file of the journal, once all have paid.
     pub(crate) fn into_device(self) -> D {
         self.ledger.into_inner().into_device()
     }
@@ -108,7 +109,7 @@ impl<'a, D: Device + Drop, S: Write + Drop, R: Wait + Clock> Work<Payment> for B
 
     ghost related = { λ _. Answers };
 
-    /// Makes the payment. Where there is no receipt of it, it sets the flag.
+    /// Makes the payment. It sets the flag if the payment gets no receipt.
     fn perform(&self, _worker: u32, job: u32, payment: Payment) -> BankReply {
         match self.make(job, payment) {
             Ok(receipt) => BankReply::Paid(receipt),

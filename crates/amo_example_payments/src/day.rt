@@ -1,4 +1,4 @@
-//! What the input says: a day's payments, and who pays them.
+//! A day: its payments, and the workers that pay them.
 ghost use Rattle.std.specs.Prelude.{◌≡◌, true, false, [], Err, map, IfOk, IfErr, IfSome, OnOk};
 ghost use Rattle.std.specs.Str.Lines.{lines};
 ghost use Rattle.amo_example_payments.specs.Days.{IsDay, IsDayOf, IsDayWith, has_broken_line, is_ended};
@@ -18,19 +18,19 @@ mod payment;
 
 pub(crate) use payment::Payment;
 
-/// A day.
+/// A day, as its input says it.
 #[derive(Drop)]
 pub(crate) struct Day {
-    /// Who pays in each round.
+    /// The workers that pay in each round.
     pub(crate) crew: Crew,
     /// After so many payments the workers of the second floor are asked to stop.
     pub(crate) limit: u64,
-    /// Numbered from 1 in their order, so that the journal can name them.
+    /// The payments, numbered from 1 in their order, so that the journal can name them.
     pub(crate) payments: Vec<Payment>,
 }
 
 impl Day {
-    /// A day without payments, with one worker and no limit.
+    /// Returns a day without payments, with one worker and no limit.
     pub(crate) fn new(alloc: Global) -> Day
         ensures { IsDay [] result }
     {
@@ -44,7 +44,7 @@ impl Day {
         }
     }
 
-    /// Adds what a line says. Where memory is refused the day is of no use.
+    /// Adds one line of the input. If memory is refused, the day is of no use.
     pub(crate) fn add(&mut self, line: Line) -> Result<(), AllocError>
         ensures { OnOk result (IsDayWith self.old line self.new) }
     {
@@ -61,7 +61,7 @@ impl Day {
     }
 }
 
-/// The lines of a text.
+/// Returns the lines of a text.
 fn lines_of(alloc: Global, text: &str) -> Result<Vec<&str>, AllocError>
     ensures { IfOk result (λ all. map (λ line. line.now) all.items ≡ lines text.now) }
 {
@@ -75,8 +75,9 @@ fn is_ended(text: &str) -> bool
     text.is_empty() || text.ends_with('\n')
 }
 
-/// The day that a text says. A line that is none, or whose end is missing, refuses the whole day:
-/// it may be half a payment, and the journal knows payments by their places among the others.
+/// Returns the day that a text says. An invalid line, or a last line without its end, refuses the
+/// whole day. It may be half a payment, and the journal knows payments by their places among the
+/// others.
 fn day_of(alloc: Global, text: &str) -> Result<Day, Fault>
     ensures day { IfOk result (IsDayOf text.now) }
     ensures line { result ≡ Err BrokenLine → has_broken_line text.now ≡ true }
@@ -98,9 +99,12 @@ fn day_of(alloc: Global, text: &str) -> Result<Day, Fault>
     Ok(day)
 }
 
-/// Reads all of the input, and the day that it says. A line that is none, or whose end is missing,
-/// refuses the whole day, as does a crew that is outside its ranges. Input is refused where it
-/// can't be read, or is no text.
+/// Reads all of the input, and returns the day that it says.
+///
+/// # Errors
+///
+/// `Input` if the input can't be read, or isn't UTF-8. `Line` if a line is invalid, or the last one
+/// lacks its end. `Crew` if the crew is outside its ranges. `Memory` if memory was refused.
 pub(crate) fn read_day<B: Read>(alloc: Global, input: &mut B) -> Result<Day, Fault>
     ensures day { IfOk result (λ day. IfSome (B.remaining input.old) (λ text. IsDayOf text day)) }
     ensures fit { IfOk result (λ day. is_fit day.crew ≡ true) }

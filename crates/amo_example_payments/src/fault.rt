@@ -1,4 +1,4 @@
-//! Why a day ends early.
+//! The faults that end a day early.
 ghost use Rattle.std.specs.Prelude.{◌≡◌};
 ghost use Rattle.amo_example_payments.specs.Faults.{fault_of_device, fault_of_reading, fault_of_recovery, fault_of_round, fault_of_leftover};
 ghost use Rattle.amo_example_payments.specs.declared.fault.Fault.TheVariants.{Memory};
@@ -8,23 +8,23 @@ use crate::second::LeftoverFault;
 use amo_journal::{DamageKind, DeviceError, RecoverError};
 use std::alloc::AllocError;
 
-/// Why a day ends early. What was paid by then stands in the journal.
+/// The fault that ended a day early. The journal has what was paid by then.
 #[derive(Clone, Copy, Debug, PartialEq, Eq)]
 pub enum Fault {
-    /// A line of the input is none of those that there are, or its last line has no end.
+    /// A line of the input is invalid, or its last line has no end.
     Line,
     /// The input can't be read.
     Input,
-    /// The crew that the input says is outside its ranges: from 1 to 16 workers, and at most
-    /// 10,000,000 steps.
+    /// The crew of the input is outside its ranges: from 1 to 16 workers, and at most 10,000,000
+    /// steps.
     Crew,
     /// The journal can't be recovered: its disk failed.
     Journal,
     /// The journal is damaged at the append of this number, from 1.
     Damaged(usize, DamageKind),
-    /// The entry of this number in the journal, from 1, is none, or may not stand there. So it is
-    /// where the day has no payment of the number that an intent says: the journal is that of
-    /// another day.
+    /// The entry of this number in the journal, from 1, is invalid, or may not follow those before
+    /// it. An intent of a payment that the day doesn't have is such an entry: the journal is that
+    /// of another day.
     Entry(usize),
     /// The report can't be written.
     Output,

@@ -27,17 +27,17 @@ mod order;
 
 pub(crate) use order::{Given, IntentToken, Receipt};
 
-/// The journal of a day, over a file that is settled. Once an entry could not be put it puts no
-/// more.
+/// The journal of a day, over a file that was recovered. After an entry that could not be put it
+/// puts no more.
 #[derive(Drop)]
 pub(crate) struct Ledger<D: Device> {
     alloc: Global,
     journal: Journal<D>,
-    /// How many payments the day has: each is the line of its number.
+    /// How many payments the day has. Payment 1 is line 1, and so on.
     lines: u64,
-    /// What stands in the journal.
+    /// The attempts in the journal.
     attempts: Vec<Attempt>,
-    /// The payments of which an intent stands there, by their numbers.
+    /// The numbers of the payments that have an intent there which stands.
     intents: BTreeSet<u64>,
     broken: bool,
     ghost settled: { broken ≡ false → IsRecovered D.seen D.may_leave D.stale journal } by { Prim.hlevel props },
@@ -59,7 +59,12 @@ impl<D: Device + Drop> Ledger<D> {
     ghost use Rattle.amo_example_payments.specs.Payments.{IsReceiptOf};
 
     /// Recovers the journal in a file, an empty one too, and reads it as that of a day of so many
-    /// payments. What is no journal of such a day is refused.
+    /// payments.
+    ///
+    /// # Errors
+    ///
+    /// `Journal` if the disk failed. `Damaged` if the file is damaged. `Entry` if an entry can't be
+    /// of such a day. `Memory` if memory was refused.
     pub(crate) fn open(alloc: Global, device: D, lines: u64) -> Result<Ledger<D>, Fault>
         requires { MayRecover D.seen D.may_leave D.stale device }
         ensures known { IfOk result (λ l. journal_in lines (D.seen device) ≡ Some l.attempts.items) }
@@ -82,15 +87,15 @@ impl<D: Device + Drop> Ledger<D> {
         })
     }
 
-    /// What stands in the journal: its intents, each with its answer.
+    /// Returns the attempts in the journal: its intents, each with its outcome.
     pub(crate) fn attempts(&self) -> &[Attempt]
         ensures { result.now ≡ self.now.attempts.items }
     {
         &self.attempts
     }
 
-    /// Puts an entry that may follow those that stand there. Where it may not, or the put fails, no
-    /// more is put.
+    /// Puts an entry that may follow those in the journal. If it may not, or the put fails, no more
+    /// is put. Returns true if it was put.
     fn put(&mut self, entry: Entry) -> bool
         ensures kept { (entries : List EntryView) → entries_of (D.seen self.old.journal.device) ≡ Some entries
             → result ≡ true → AreKept D.seen D.may_leave self.new.journal.device (entries ++ entry ∷ []) }
@@ -125,9 +130,12 @@ impl<D: Device + Drop> Ledger<D> {
         }
     }
 
-    /// Puts the intent of the payment. Once this answers it, each crash leaves the intent. Where it
-    /// can't be put, or an intent of the payment stands there already, the payment comes back, and
-    /// must not be made: its intent may stand there now.
+    /// Puts the intent of the payment. Once it returns the token, each crash leaves the intent.
+    ///
+    /// # Errors
+    ///
+    /// The payment, if its intent can't be put, or an intent of it stands in the journal already.
+    /// The payment must not be made then, since its intent may be in the journal now.
     pub(crate) fn intend(&mut self, payment: Payment, time: u64) -> Result<IntentToken, Payment>
         // The journal had no intent of the payment that stands.
         ensures once { OnOk result (has_intent self.old.attempts.items payment.id ≡ false) }
@@ -159,8 +167,12 @@ impl<D: Device + Drop> Ledger<D> {
         }
     }
 
-    /// Puts the receipt of a payment that was given to the bank, and answers it. Where that fails
-    /// the payment comes back: it was made, and is in doubt, unless the receipt stands there now.
+    /// Puts the receipt of a payment that was given to the bank, and returns it.
+    ///
+    /// # Errors
+    ///
+    /// The payment, if that fails. It was made, and is in doubt, unless the receipt is in the
+    /// journal now.
     pub(crate) fn note(&mut self, given: Given, job: u32, time: u64) -> Result<Receipt, Payment>
         ensures receipt { IfOk result (IsReceiptOf job given.payment) }
         ensures back { IfErr result (λ p. p ≡ given.payment) }
@@ -181,7 +193,7 @@ impl<D: Device + Drop> Ledger<D> {
         }
     }
 
-    /// The file, whether the journal is broken or not.
+    /// Returns the file, whether the journal is broken or not.
     pub(crate) fn into_device(self) -> D
         ensures { result ≡ self.journal.device }
     {

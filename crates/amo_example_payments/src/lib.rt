@@ -1,10 +1,20 @@
-//! A day of payments to accounts, each made at most once: a small work that shows how a caller
-//! embeds the executor.
+//! A day of payments to accounts, each made at most once: a small example of a caller that embeds
+//! the executor.
 //!
-//! `serve` reads the payments of a day, and its journal, which stands in a file. What has no intent
-//! there it pays, in rounds of at most 4096: it puts an intent into the journal before each payment
-//! and a receipt after it, and writes what became of each payment. It may wait. docs/EMBEDDING.md
-//! goes through all of it, to be copied; no other caller needs its parts, so they stay its own.
+//! Start at [`serve`]. It reads the payments of a day, and its journal, which is a file. It pays
+//! the payments that have no intent there, in rounds of at most 4096. It puts an intent into the
+//! journal before each payment and a receipt after it, and writes what became of each payment. It
+//! may wait.
+//!
+//! docs/EMBEDDING.md goes through all of it, to be copied. No other caller needs its parts, so they
+//! stay private.
+//!
+//! | here | in the glossary |
+//! |---|---|
+//! | to put | to append to the journal |
+//! | gate | commit byte |
+//! | floor | shared state |
+//! | j | a job |
 #![tactic(auto)]
 
 mod bank;

@@ -9,15 +9,15 @@ use amo_decimal::number;
 pub(crate) enum Line {
     /// How many workers there are.
     Workers(u64),
-    /// After how many steps each worker is halted, in a round.
+    /// The number of steps after which each worker is halted, in a round.
     Steps(u64),
-    /// After how many payments the workers of the second floor are asked to stop.
+    /// The number of payments after which the workers of the second floor are asked to stop.
     Limit(u64),
     /// An account, and the amount that it gets.
     Pay(u64, u64),
 }
 
-/// Two numbers, with a blank between them.
+/// Returns the payment of two numbers, with a blank between them.
 fn pay(text: &str) -> Option<Line>
     ensures { result ≡ payment_in text.now }
 {
@@ -25,7 +25,7 @@ fn pay(text: &str) -> Option<Line>
     Some(Line::Pay(number(account)?, number(cents)?))
 }
 
-/// What a line of this word and this rest says.
+/// Returns the line of this word and this rest.
 fn line_of_word(word: &str, rest: &str) -> Option<Line>
     ensures { result ≡ line_of_word word.now rest.now }
 {
@@ -38,8 +38,8 @@ fn line_of_word(word: &str, rest: &str) -> Option<Line>
     }
 }
 
-/// What the line says, or None where it is none of these: then nobody may go on, since it may be a
-/// broken payment, and each one behind it would have another number than the journal gives it.
+/// Returns what the line says, or `None` if it is invalid. The caller must then stop: the line may
+/// be a broken payment, and each one after it would get another number than the journal gives it.
 pub(crate) fn line_of(text: &str) -> Option<Line>
     ensures { result ≡ line_in text.now }
 {

@@ -1,4 +1,4 @@
-//! What is left to do where earlier runs have left a journal.
+//! The payments that are left to make after earlier runs of the day.
 ghost use Rattle.std.specs.Prelude.{◌≡◌, ◌||◌, ◌==◌, true, ℕ, List, [], ◌∷◌, ◌++◌, Some, IfOk, OnOk};
 ghost use Rattle.std.specs.BTreeSet.{contains};
 ghost use Rattle.std.specs.Ordering.{nat_cmp};
@@ -15,12 +15,12 @@ use std::collections::BTreeSet;
 /// The payments of a day after earlier runs of it. Each is in one of the three.
 #[derive(Drop)]
 pub(crate) struct Restart {
-    /// Those with a receipt. They were made.
+    /// The payments with a receipt. They were made.
     pub(crate) made: Vec<Payment>,
-    /// Those with an intent and no receipt. Nobody knows whether they were made, so a person has to
-    /// ask the bank.
+    /// The payments with an intent and no receipt. Nobody knows whether they were made, so a person
+    /// has to ask the bank.
     pub(crate) in_doubt: Vec<Payment>,
-    /// Those of which the journal says nothing. They were not made, since an intent is written
+    /// The payments that the journal doesn't name. They were not made, since an intent is written
     /// first.
     pub(crate) untried: Vec<Payment>,
 }
@@ -32,17 +32,17 @@ fn is_made(answer: Option<Outcome>) -> bool
     matches!(answer, Some(Outcome::Done { code: 0, .. }))
 }
 
-/// What a journal says of payments, by their numbers.
+/// The numbers of the payments that a journal names.
 #[derive(Drop)]
 pub(crate) struct Earlier {
-    /// Those with an intent that stands.
+    /// The payments with an intent that stands.
     pub(crate) intents: BTreeSet<u64>,
-    /// Those with a receipt.
+    /// The payments with a receipt.
     receipts: BTreeSet<u64>,
 }
 
 impl Earlier {
-    /// Adds what one intent says, with its answer.
+    /// Adds one intent with its outcome.
     fn add(&mut self, attempt: &Attempt) -> Result<(), AllocError>
         ensures intents { OnOk result ((id : ℕ) → contains nat_cmp self.new.intents id ≡ (contains nat_cmp self.old.intents id || stands id attempt.now)) }
         ensures receipts { OnOk result ((id : ℕ) → contains nat_cmp self.new.receipts id ≡ (contains nat_cmp self.old.receipts id || is_receipt id attempt.now)) }
@@ -56,7 +56,7 @@ impl Earlier {
         Ok(())
     }
 
-    /// What this journal says.
+    /// Returns what this journal says.
     pub(crate) fn of(alloc: Global, journal: &[Attempt]) -> Result<Earlier, AllocError>
         ensures intents { IfOk result (λ e. (id : ℕ) → contains nat_cmp e.intents id ≡ has_intent journal.now id) }
         ensures receipts { IfOk result (λ e. (id : ℕ) → contains nat_cmp e.receipts id ≡ has_receipt journal.now id) }
@@ -80,9 +80,9 @@ fn add(numbers: &mut BTreeSet<u64>, id: u64) -> Result<(), AllocError>
     Ok(())
 }
 
-/// Has the set follow an entry that the journal is given: it is that of the payments whose intents
-/// stand. False where memory is refused, and where the entry is an answer by which its payment was
-/// not begun: a day puts none.
+/// Makes the set follow an entry that the journal is given. The set has the payments whose intents
+/// stand. Returns false if memory is refused, or if the entry is an outcome by which its payment
+/// was not begun. A day puts no such outcome.
 pub(crate) fn follow(intents: &mut BTreeSet<u64>, entry: Entry) -> bool
     ensures { result ≡ true → (lines : ℕ) (old new : List AttemptView) → noted lines old entry ≡ Some new
         → ((id : ℕ) → contains nat_cmp intents.old id ≡ has_intent old id) → (id : ℕ) → contains nat_cmp intents.new id ≡ has_intent new id }
@@ -94,7 +94,7 @@ pub(crate) fn follow(intents: &mut BTreeSet<u64>, entry: Entry) -> bool
 }
 
 impl Restart {
-    /// Puts one payment more where it belongs.
+    /// Puts one payment more into its list.
     #[tactic(auto, using(crate::proofs::Filters::passed, crate::proofs::Filters::skipped))]
     fn add(&mut self, earlier: &Earlier, payment: Payment) -> Result<(), AllocError>
         ensures parted { OnOk result ((payments : List PaymentView) (journal : List AttemptView)
@@ -113,9 +113,13 @@ impl Restart {
     }
 }
 
-/// Parts the payments by what the journal says of them. Nothing else is known of earlier runs.
-/// Where memory is refused the payments are dropped: nothing was paid, and the day has to end. It
+/// Parts the payments by what the journal says of them. Nothing else is known of earlier runs. It
 /// goes through the journal once.
+///
+/// # Errors
+///
+/// `AllocError` if memory is refused. The payments are dropped then: nothing was paid, and the day
+/// has to end.
 pub(crate) fn part(
     alloc: Global,
     payments: Vec<Payment>,

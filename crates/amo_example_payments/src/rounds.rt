@@ -1,4 +1,4 @@
-//! Payments go in rounds, since a floor has at most 4096 jobs.
+//! Rounds of payments, since a floor has at most 4096 jobs.
 ghost use Rattle.std.specs.Prelude.{◌≡◌, ◌≤◌, ◌++◌, ℕ, List, Ok, length, min, map, replicate, vec_len, IfOk, IfErr, IfSome, OnOk, OnErr};
 ghost use Rattle.amo_givens.specs.Givens.{givens_of};
 ghost use Rattle.amo_givens.specs.declared.givens.Givens.{Givens as GivensView};
@@ -43,22 +43,21 @@ impl Crew {
     }
 }
 
-/// Why a round gives no sorted jobs.
+/// The reason that a round gave no sorted jobs.
 #[derive(Drop)]
 pub(crate) enum RoundFault {
     /// Nothing was paid, and the payments come back in their order: there was no memory, or the
     /// crew is outside its ranges.
     Unpaid(Vec<Payment>),
-    /// Memory was refused where the round was to be settled, twice. What it left can be settled
-    /// later.
+    /// Memory was refused twice when the round was to be settled. Its rest can be settled later.
     Unsettled(Unsettled<Payment, BankReply>),
-    /// Memory was refused where the outcome of the round was to be sorted, twice. It can be sorted
+    /// Memory was refused twice when the outcome of the round was to be sorted. It can be sorted
     /// later.
     Unsorted(Outcome<Payment, BankReply>),
 }
 
-/// Takes the next round off the payments: their first 4096, or all. Where memory is refused they
-/// stay as they are.
+/// Takes the next round off the payments: their first 4096, or all. If memory is refused, they stay
+/// as they are.
 pub(crate) fn next_round(payments: &mut Vec<Payment>) -> Result<Vec<Payment>, AllocError>
     ensures round { IfOk result (λ round. payments.old.items ≡ round.items ++ payments.new.items) }
     ensures size { IfOk result (λ round. vec_len round ≡ min (vec_len payments.old) MAX_JOBS) }
@@ -69,8 +68,8 @@ pub(crate) fn next_round(payments: &mut Vec<Payment>) -> Result<Vec<Payment>, Al
     Ok(mem::replace(payments, rest))
 }
 
-/// A plan for so many jobs that halts each worker after the crew's steps, or None where the crew is
-/// outside its ranges or memory is refused.
+/// Returns a plan for so many jobs that halts each worker after the crew's steps. Returns `None` if
+/// the crew is outside its ranges or memory is refused.
 fn plan_of(alloc: Global, jobs: usize, crew: Crew) -> Option<StopPlan>
     ensures count { IfSome result (λ plan. plan.givens.jobs ≡ jobs) }
     ensures givens { IfSome result (λ plan. givens_of jobs crew.workers crew.workers ≡ Ok plan.givens) }
@@ -81,7 +80,7 @@ fn plan_of(alloc: Global, jobs: usize, crew: Crew) -> Option<StopPlan>
     StopPlan::try_new(alloc, givens, &budgets).ok()
 }
 
-/// The numbers of these payments.
+/// Returns the numbers of these payments.
 fn ids_of(alloc: Global, payments: &[Payment]) -> Result<Vec<u64>, AllocError>
     ensures { IfOk result (λ ids. ids.items ≡ ids_of payments.now) }
 {
@@ -95,7 +94,7 @@ fn ids_of(alloc: Global, payments: &[Payment]) -> Result<Vec<u64>, AllocError>
         .collect(alloc)
 }
 
-/// Sorts what came of a round. Memory that is refused is asked for once more.
+/// Sorts the outcome of a round. If memory is refused, it asks once more.
 fn sort_twice(
     alloc: Global,
     ids: &[u64],
@@ -116,7 +115,7 @@ fn sort_twice(
     }
 }
 
-/// Settles what a run left whose settling wanted memory.
+/// Settles the rest of a run whose settling wanted memory.
 fn settle_again<D: Device + Drop, S: Write + Drop, R: Wait + Clock>(
     alloc: Global,
     bank: &Bank<'_, D, S, R>,
@@ -133,8 +132,8 @@ fn settle_again<D: Device + Drop, S: Write + Drop, R: Wait + Clock>(
     }
 }
 
-/// Executes one round. Where a thread could not be started the others have paid, and where memory
-/// was refused at the settling it is settled again, once.
+/// Executes one round. If a thread could not be started, the others have paid. If memory was
+/// refused at the settling, it is settled again, once.
 fn run_round<D: Device + Drop + Send, S: Write + Drop + Send, R: Threads + Wait + Clock + Sync>(
     rt: &R,
     alloc: Global,
@@ -154,7 +153,7 @@ fn run_round<D: Device + Drop + Send, S: Write + Drop + Send, R: Threads + Wait 
     }
 }
 
-/// Pays one round, and sorts what came of it. There have to be at most 4096 payments. May wait.
+/// Pays one round, and sorts its outcome. The caller must give at most 4096 payments. It may wait.
 pub(crate) fn pay_round<
     D: Device + Drop + Send,
     S: Write + Drop + Send,
@@ -182,9 +181,9 @@ pub(crate) fn pay_round<
     }
 }
 
-/// Adds the payments that nobody began, in their order: what a new floor is made of. What was in a
-/// worker's hand is not among them. Where memory is refused they are dropped, and the journal has
-/// no entry of them.
+/// Adds the payments that nobody began, in their order, for a new floor. A payment that was in a
+/// worker's hand is not among them. If memory is refused, they are dropped, and the journal has no
+/// entry of them.
 pub(crate) fn add_free(free: Vec<(u32, Payment)>, list: &mut Vec<Payment>) -> Result<(), AllocError>
     ensures { OnOk result (list.new.items ≡ list.old.items ++ map (λ t. t.1) free.items) }
 {

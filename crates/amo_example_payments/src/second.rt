@@ -12,16 +12,16 @@ use amo_words::{Book, Floor, OpenFault};
 use std::alloc::Global;
 use std::sync::atomic::AtomicBool;
 
-/// What a worker in the caller's own loop has left.
+/// The result of a worker in the caller's own loop.
 #[derive(Drop)]
 pub(crate) struct Leftover<P, Out> {
-    /// The answers of what it has performed, in its order.
+    /// The answers to the jobs that it performed, in its order.
     pub(crate) outputs: Vec<Output<Out>>,
-    /// What it has not begun.
+    /// The jobs that it has not begun, with their payloads.
     pub(crate) free: Vec<(u32, P)>,
 }
 
-/// Why a worker in the caller's own loop has left nothing.
+/// The reason that a worker in the caller's own loop gave no result.
 #[derive(Drop)]
 pub(crate) enum LeftoverFault<P: Drop, Out> {
     /// Nothing was performed, and the payloads come back in their order: there was no memory.
@@ -35,7 +35,7 @@ pub(crate) enum LeftoverFault<P: Drop, Out> {
 }
 
 /// Hires worker 1 of an open floor of one worker and runs it until the flag is set, then settles.
-/// Where memory is refused floor and book come back.
+/// If memory is refused, floor and book come back.
 fn run_one<P: Drop, W: Work<P>>(
     alloc: Global,
     flag: &AtomicBool,
@@ -66,8 +66,8 @@ where
     }
 }
 
-/// Opens a floor of these payloads, of which there have to be at most 4096, and runs one worker
-/// there until it has ended, or the flag is set.
+/// Opens a floor of these payloads and runs one worker there until it has ended, or the flag is
+/// set. The caller must give at most 4096 payloads.
 pub(crate) fn run_alone<P: Drop, W: Work<P>>(
     alloc: Global,
     flag: &AtomicBool,

@@ -31,8 +31,8 @@ impl<D: Device + Drop + Send, S: Write + Drop + Send, R: Threads + Wait + Clock 
     S,
     R,
 > {
-    /// Pays one round off the payments, writes what is certain of it, and adds what nobody began to
-    /// the list.
+    /// Pays one round off the payments, writes the certain results, and adds the payments that
+    /// nobody began to the list.
     fn pay_next<O: Write>(
         &self,
         out: &mut O,
@@ -52,7 +52,7 @@ impl<D: Device + Drop + Send, S: Write + Drop + Send, R: Threads + Wait + Clock 
         Ok(())
     }
 
-    /// Pays all in rounds, and answers what nobody began.
+    /// Pays all in rounds, and returns the payments that nobody began.
     fn pay_all<O: Write>(
         &self,
         out: &mut O,
@@ -70,8 +70,8 @@ impl<D: Device + Drop + Send, S: Write + Drop + Send, R: Threads + Wait + Clock 
         Ok(free)
     }
 
-    /// Opens one floor of one worker for payments off the list, writes what it has made, and adds
-    /// what it has not begun to the other list.
+    /// Opens one floor of one worker for payments off the list, writes what it made, and adds what
+    /// it has not begun to the other list.
     fn try_next<O: Write>(
         &self,
         out: &mut O,
@@ -90,7 +90,7 @@ impl<D: Device + Drop + Send, S: Write + Drop + Send, R: Threads + Wait + Clock 
         Ok(())
     }
 
-    /// Pays on floors of one worker until the flag is set, and answers what is left.
+    /// Pays on floors of one worker until the flag is set, and returns the payments that are left.
     fn try_all<O: Write>(
         &self,
         out: &mut O,
@@ -108,8 +108,8 @@ impl<D: Device + Drop + Send, S: Write + Drop + Send, R: Threads + Wait + Clock 
     }
 }
 
-/// Pays what the journal says nothing of: first in rounds, and then what nobody began on floors of
-/// one worker, until the flag is set. Writes what became of each payment.
+/// Pays the payments that the journal doesn't name, and writes what became of each. Rounds come
+/// first. The payments that nobody began there go onto floors of one worker, until the flag is set.
 fn pay_day<
     D: Device + Drop + Send,
     S: Write + Drop + Send,
@@ -131,12 +131,18 @@ fn pay_day<
     Ok(bank.into_device())
 }
 
-/// Reads a day and its journal, which stands in a file that nobody else writes, and pays what the
-/// journal says nothing of. It tells the orders to `orders`, and writes to `out` what became of
-/// each payment. Where the input says no day, or the file is no journal of it, nothing is written
-/// and nothing is paid. After another fault a beginning of the report was written, and the journal
-/// alone says what was paid. What it holds at the end no clause says, but those of `Ledger` say it
-/// of each call. Gives back the file. May wait.
+/// Reads a day and its journal, and pays the payments that the journal doesn't name. The journal is
+/// a file that nobody else writes. It writes the orders to `orders`, and to `out` what became of
+/// each payment. It may wait. It gives back the file.
+///
+/// If the input isn't a day, or the file isn't a journal of it, nothing is written and nothing is
+/// paid. After another fault a beginning of the report was written, and the journal alone has what
+/// was paid. No contract of `serve` states what the journal has at the end. The contracts of the
+/// private type `Ledger` state it of each call.
+///
+/// # Errors
+///
+/// The fault that ended the day early.
 pub fn serve<
     B: Read,
     D: Device + Drop + Send,
@@ -144,7 +150,7 @@ pub fn serve<
     O: Write,
     R: Threads + Wait + Clock + Sync,
 >(rt: &R, alloc: Global, input: &mut B, device: D, orders: S, out: &mut O) -> Result<D, Fault>
-    // The disk may hold what is read with its last gate open or closed.
+    // A crash may have left the last append with its commit byte open or closed.
     requires { MayRecover D.seen D.may_leave D.stale device }
 
     ensures whole { OnOk result (IsServed (B.remaining input.old) (D.seen device) (O.contents out.old) (O.contents out.new)) }

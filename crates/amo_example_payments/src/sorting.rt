@@ -1,4 +1,4 @@
-//! What is certain of each payment after a run.
+//! The payments of a run, sorted by what is certain of each.
 ghost use Rattle.std.specs.Prelude.{◌≡◌, ◌==◌, ◌<◌, ◌≤◌, ◌+◌, ◌||◌, not, ℕ, List, [], ◌∷◌, ◌++◌, length, filter, vec_len, vec_capacity, IfOk, IfErr, OnOk};
 ghost use Rattle.std.specs.BTreeSet.{contains};
 ghost use Rattle.std.specs.List.{enumerate_from};
@@ -20,10 +20,10 @@ use std::collections::BTreeSet;
 /// answers, or is free, or is in doubt, and just one of these.
 #[derive(Drop)]
 pub(crate) struct Sorted {
-    /// What came of those that were performed. Where it is a receipt the payment was made, and
-    /// there is nothing left to do.
+    /// The answers to the jobs that were performed. A receipt means that the payment was made, and
+    /// nothing is left to do.
     pub(crate) answers: Vec<Output<BankReply>>,
-    /// Those that nobody began, each with its payment. They may be handed to a new floor.
+    /// The jobs that nobody began, each with its payment. They may be handed to a new floor.
     pub(crate) free: Vec<(u32, Payment)>,
     /// All others, each with its payment's number, to be shown to a person. They must not be made
     /// again.
@@ -39,7 +39,7 @@ fn is_paid(answer: &BankReply) -> bool
     matches!(answer, BankReply::Paid(_))
 }
 
-/// The jobs of which there is a receipt among the answers.
+/// Returns the jobs that have a receipt among the answers.
 fn paid_in(alloc: Global, answers: &[Output<BankReply>]) -> Result<BTreeSet<u32>, AllocError>
     ensures { IfOk result (λ s. (j : ℕ) → contains nat_cmp s j ≡ has_receipt_of answers.now j) }
 {
@@ -60,7 +60,7 @@ fn add_free(jobs: &mut BTreeSet<u32>, entry: &(u32, Payment)) -> Result<(), Allo
     Ok(())
 }
 
-/// The free jobs.
+/// Returns the free jobs.
 fn free_in(alloc: Global, free: &[(u32, Payment)]) -> Result<BTreeSet<u32>, AllocError>
     ensures { IfOk result (λ s. (j : ℕ) → contains nat_cmp s j ≡ has_job free.now j) }
 {
@@ -71,7 +71,7 @@ fn free_in(alloc: Global, free: &[(u32, Payment)]) -> Result<BTreeSet<u32>, Allo
     Ok(jobs)
 }
 
-/// Lists the job with its payment's number where it is neither paid nor free.
+/// Lists the job with its payment's number if it is neither paid nor free.
 #[tactic(auto, using(crate::proofs::Filters::passed, crate::proofs::Filters::skipped))]
 fn add_unsure(
     job: (u32, u64),
@@ -108,8 +108,8 @@ fn list_unsure(
 }
 
 /// Sorts the jobs of a run of payments with these numbers, at most 4096, by what is certain of
-/// each. Where memory is refused the outcome comes back as it was. It goes through the answers and
-/// the free jobs once.
+/// each. It goes through the answers and the free jobs once. If memory is refused, the outcome
+/// comes back as it was.
 pub(crate) fn sort_out(
     alloc: Global,
     ids: &[u64],

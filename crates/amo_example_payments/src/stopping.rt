@@ -9,8 +9,8 @@ use amo_crew::Output;
 use amo_words::{Floor, Worker};
 use std::sync::atomic::{AtomicBool, Ordering};
 
-/// One step of a ready worker. What it claims it performs and files at once, and the answer goes
-/// into the list.
+/// Takes one step of a ready worker. A job that it claims it performs and files at once, and the
+/// answer goes into the list.
 fn turn<P: Drop, W: Work<P>>(
     floor: &Floor<P>,
     work: &W,
@@ -43,7 +43,7 @@ fn turn<P: Drop, W: Work<P>>(
     }
 }
 
-/// Takes a worker off the floor that has nothing in its hand. Where it goes on it takes back its
+/// Takes a worker that has nothing in its hand off the floor. A worker that goes on takes back its
 /// announcement first, so that the job is free to others.
 fn leave<P: Drop>(floor: &Floor<P>, after: After<P>) -> Gone<P>
     requires table { (worker_in after).table_id ≡ floor.now.table_id }
@@ -60,10 +60,10 @@ fn leave<P: Drop>(floor: &Floor<P>, after: After<P>) -> Gone<P>
 }
 
 /// Runs a hired worker until it has ended, or the flag is set. It looks at the flag before each
-/// step, and never while a job is in its hand: what it has claimed it performs and files first. It
-/// may be called in as many threads as there are workers, with one flag. The list gets the answers,
-/// and needs room for as many as there are jobs. Afterwards the worker has ended or has left, so
-/// that nothing that it had announced is kept from others. No clause says when the flag is seen.
+/// step, and never while a job is in its hand: it performs and files a claimed job first. It may be
+/// called in as many threads as there are workers, with one flag. The list gets the answers, and
+/// needs room for as many as there are jobs. Afterwards the worker has ended or has left, so that
+/// its announcement keeps nothing from others. No contract states when the flag is seen.
 pub(crate) fn run_until<P: Drop, W: Work<P>>(
     flag: &AtomicBool,
     floor: &Floor<P>,

@@ -1,4 +1,4 @@
-//! Writes what became of payments, a line for each.
+//! The report on payments, a line for each.
 ghost use Rattle.std.specs.Prelude.{◌≡◌, ◌++◌, true, Err, IfErr, OnOk, OnErr, string_bytes};
 ghost use Rattle.std.specs.Io.KnownBytes.{Appends, Keeps};
 ghost use Rattle.amo_example_payments.specs.Faults.{IsOfTelling};
@@ -15,7 +15,7 @@ use amo_crew::Output;
 use std::alloc::{AllocError, Global};
 use std::io::Write;
 
-/// Writes all of the text. Where the writer fails a beginning of it was taken.
+/// Writes all of the text. If the writer fails, it took a beginning of it.
 fn write_out<O: Write>(out: &mut O, text: &str) -> Result<(), Fault>
     ensures whole { OnOk result (Appends (O.contents out.old) (O.contents out.new) text.now) }
     ensures front { OnErr result (AppendsFront (O.contents out.old) (O.contents out.new) text.now) }
@@ -73,7 +73,7 @@ fn push_doubts(text: &mut String, in_doubt: &[(u32, u64)]) -> Result<(), AllocEr
     Ok(())
 }
 
-/// Writes a line of this word for each payment. Where memory is refused nothing is written.
+/// Writes a line of this word for each payment. If memory is refused, nothing is written.
 pub(crate) fn tell_each<O: Write>(
     alloc: Global,
     out: &mut O,
@@ -90,8 +90,8 @@ pub(crate) fn tell_each<O: Write>(
     write_out(out, text.as_str())
 }
 
-/// Writes a line for each answer: `done` with a receipt, and `doubt` without. Where memory is
-/// refused nothing is written.
+/// Writes a line for each answer: `done` with a receipt, and `doubt` without. If memory is refused,
+/// nothing is written.
 pub(crate) fn tell_answers<O: Write>(
     alloc: Global,
     out: &mut O,
@@ -108,7 +108,7 @@ pub(crate) fn tell_answers<O: Write>(
 }
 
 /// Writes a line for each payment of a round that is not free: `done` with a receipt, and `doubt`
-/// without. Where memory is refused nothing is written.
+/// without. If memory is refused, nothing is written.
 pub(crate) fn tell_round<O: Write>(alloc: Global, out: &mut O, sorted: &Sorted) -> Result<(), Fault>
     ensures whole { OnOk result (Appends (O.contents out.old) (O.contents out.new) (round_text sorted.now)) }
     ensures front { OnErr result (AppendsFront (O.contents out.old) (O.contents out.new) (round_text sorted.now)) }

@@ -1,4 +1,4 @@
-//! Writes text, of which a beginning is known where a writer fails.
+//! Writing of text. If a writer fails, it took a beginning of the text.
 ghost use Rattle.std.specs.Prelude.{◌≡◌, ◌++◌, true, false, OnOk, string_bytes};
 ghost use Rattle.std.specs.Io.KnownBytes.{Appends};
 ghost use Rattle.amo_io.specs.Streams.{AppendsFront};
@@ -7,8 +7,8 @@ ghost use Rattle.amo_example_payments.specs.Lines.{line};
 use std::alloc::AllocError;
 use std::io::Write;
 
-/// Writes all of the text. Where the writer fails a beginning of it was taken, and this answers
-/// false.
+/// Writes all of the text, and returns true. If the writer fails, it took a beginning of it, and
+/// this returns false.
 pub(crate) fn write_text<O: Write>(out: &mut O, text: &str) -> bool
     ensures whole { result ≡ true → Appends (O.contents out.old) (O.contents out.new) text.now }
     ensures front { result ≡ false → AppendsFront (O.contents out.old) (O.contents out.new) text.now }

@@ -1,4 +1,4 @@
-//! What a plan asks for.
+//! The request of a plan, in words.
 use crate::wording::push_count;
 use amo_plan::Heads;
 use std::alloc::{AllocError, Global};
@@ -16,7 +16,7 @@ fn push_jobs(out: &mut String, heads: &Heads) -> Result<(), AllocError> {
     write!(out, " of up to {block}")
 }
 
-/// What a plan asks for: its version, jobs, workers, threshold, moves and rounds.
+/// Returns the request of a plan: its version, jobs, workers, threshold, moves and rounds.
 pub(crate) fn asked_of(alloc: Global, heads: &Heads) -> Result<String, AllocError> {
     let mut out = String::new(alloc);
     let version = heads.version;

@@ -1,9 +1,9 @@
-//! Where and why TOML doesn't read a text.
+//! The place at which TOML doesn't read a text, and the reason.
 use crate::wording::push_quoted;
 use std::alloc::{AllocError, Global};
 use toml_parser::ErrorKind;
 
-/// What the lines of a plan are.
+/// A description of the lines of a plan.
 const LINES: &str = " A plan is TOML: each line has a key, `=` and a value, as `version = 1`.\n";
 
 /// The kinds of fault whose sentences say more than the reader of TOML does.
@@ -23,7 +23,8 @@ const KINDS: [ErrorKind; 13] = [
     ErrorKind::Extend,
 ];
 
-/// The line and the column, both from 1, of the byte with this index. A column counts characters.
+/// Returns the line and the column, both from 1, of the byte with this index. A column counts
+/// characters.
 fn place_of(bytes: &[u8], index: usize) -> (usize, usize) {
     let mut line = 1usize;
     let mut column = 1usize;
@@ -41,7 +42,7 @@ fn place_of(bytes: &[u8], index: usize) -> (usize, usize) {
     (line, column)
 }
 
-/// The kind that has this description, if it is one of these.
+/// Returns the kind that has this description, if it is one of these.
 fn kind_of(message: &str) -> Option<ErrorKind> {
     for kind in KINDS {
         if kind.description() == message {
@@ -56,7 +57,7 @@ fn is_mark(c: char) -> bool {
     matches!(c, '{' | '}' | '[' | ']' | ',' | '=' | ':' | '#')
 }
 
-/// The front of a text, up to this index.
+/// Returns the front of a text, up to this index.
 fn front(text: &str, index: usize) -> &str {
     match text.split_at_checked(index) {
         Some((front, _)) => front,
@@ -64,7 +65,7 @@ fn front(text: &str, index: usize) -> &str {
     }
 }
 
-/// The first word of a text, or its first character where that is a mark.
+/// Returns the first word of a text, or its first character if that is a mark.
 fn first_word(text: &str) -> &str {
     for (i, c) in text.char_indices() {
         if i == 0 && is_mark(c) {
@@ -77,7 +78,7 @@ fn first_word(text: &str) -> &str {
     text
 }
 
-/// What a line has before its `=`, or all of it.
+/// Returns the part of a line before its `=`, or all of it.
 fn key_in(text: &str) -> &str {
     for (i, c) in text.char_indices() {
         if c == '=' || c == '\n' || c == '\r' {
@@ -99,7 +100,7 @@ fn push_found(out: &mut String, rest: &str, wanted: &str) -> Result<(), AllocErr
     write!(out, " stands where {wanted} has to.")
 }
 
-/// Appends what is wrong within a text in quotes.
+/// Appends the fault within a text in quotes.
 fn push_text_fault(out: &mut String, rest: &str) -> Result<(), AllocError> {
     if rest.is_empty() {
         return out.push_str("the plan ends within a text in quotes. Write the quote at its end.\n");
@@ -130,7 +131,7 @@ fn push_no_value(out: &mut String, rest: &str) -> Result<(), AllocError> {
     )
 }
 
-/// What has to stand where a kind of fault found something else, and what is told of it.
+/// Returns the token that a fault of this kind wanted instead, and the words on it.
 fn wanted_at(kind: ErrorKind) -> Option<(&'static str, &'static str)> {
     match kind {
         ErrorKind::Key => Some(("a key", LINES)),

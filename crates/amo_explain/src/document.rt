@@ -1,4 +1,4 @@
-//! A text that TOML reads, with what a fault's place is looked for in.
+//! A text that TOML reads, with the tree in which the place of a fault is searched.
 use crate::walk::{Form, Named, names_in};
 use crate::wording::push_quoted;
 use std::alloc::{AllocError, Global};
@@ -16,7 +16,7 @@ pub(crate) struct Document<'a> {
 }
 
 impl<'a> Document<'a> {
-    /// The document of these bytes, if TOML reads them.
+    /// Returns the document of these bytes, if TOML reads them.
     pub(crate) fn read(alloc: Global, bytes: &'a [u8]) -> Result<Option<Document<'a>>, AllocError> {
         let Ok(text) = std::str::from_utf8(bytes) else {
             return Ok(None);
@@ -31,17 +31,17 @@ impl<'a> Document<'a> {
         }
     }
 
-    /// The value at a key of the top level.
+    /// Returns the value at a key of the top level.
     pub(crate) fn value(&self, key: &str) -> Option<&Value> {
         self.tree.get(key)
     }
 
-    /// The integer at a key of the top level, if it isn't negative.
+    /// Returns the integer at a key of the top level, if it isn't negative.
     pub(crate) fn natural(&self, key: &str) -> Option<u64> {
         natural(self.value(key)?)
     }
 
-    /// The text at a key of the top level, empty where there is none.
+    /// Returns the text at a key of the top level. It is empty if the key is missing.
     pub(crate) fn text_at(&self, key: &str) -> &str {
         match self.value(key) {
             Some(Value::String(text)) => text.as_str(),
@@ -49,7 +49,7 @@ impl<'a> Document<'a> {
         }
     }
 
-    /// The jobs.
+    /// Returns the jobs.
     pub(crate) fn jobs(&self) -> &[Value] {
         match self.value("job") {
             Some(Value::Array(jobs)) => jobs.as_slice(),
@@ -57,7 +57,7 @@ impl<'a> Document<'a> {
         }
     }
 
-    /// The table of a job, or of the top level for 0.
+    /// Returns the table of a job, or of the top level for 0.
     pub(crate) fn table(&self, job: u32) -> Option<&Table> {
         if job == 0 {
             return Some(&self.tree);
@@ -65,17 +65,17 @@ impl<'a> Document<'a> {
         self.jobs().get(job as usize - 1)?.as_table()
     }
 
-    /// The value at a key of a job.
+    /// Returns the value at a key of a job.
     pub(crate) fn value_of_job(&self, job: u32, key: &str) -> Option<&Value> {
         self.table(job)?.get(key)
     }
 
-    /// The name of a job.
+    /// Returns the name of a job.
     pub(crate) fn name_of_job(&self, job: u32) -> Option<&str> {
         self.value_of_job(job, "name")?.as_str()
     }
 
-    /// The line, from 1, of what has so many bytes of the text left.
+    /// Returns the line, from 1, of the place with so many bytes of the text left.
     pub(crate) fn line_at(&self, left: usize) -> usize {
         let before = self.text.len().saturating_sub(left);
         let mut line = 1usize;
@@ -90,7 +90,7 @@ impl<'a> Document<'a> {
         line
     }
 
-    /// The line of a key of a job, or of the top level for 0, where it was found.
+    /// Returns the line of a key of a job, or of the top level for job 0, if it was found.
     pub(crate) fn line_of(&self, job: u32, key: &str) -> Option<usize> {
         for name in self.names.iter() {
             if name.job == job && name.key.as_str() == key {
@@ -100,7 +100,7 @@ impl<'a> Document<'a> {
         None
     }
 
-    /// The line in which a job begins, where it was found.
+    /// Returns the line in which a job begins, if it was found.
     pub(crate) fn line_of_job(&self, job: u32) -> Option<usize> {
         let mut begun = 0u32;
         for name in self.names.iter() {
@@ -117,7 +117,7 @@ impl<'a> Document<'a> {
         None
     }
 
-    /// Appends a job by its number, and by its name where it has one.
+    /// Appends a job by its number, and by its name if it has one.
     pub(crate) fn push_job(&self, out: &mut String, job: u32) -> Result<(), AllocError> {
         write!(out, "job {job}")?;
         match self.name_of_job(job) {
@@ -131,7 +131,7 @@ impl<'a> Document<'a> {
     }
 }
 
-/// An integer that isn't negative.
+/// Returns an integer that isn't negative.
 pub(crate) fn natural(value: &Value) -> Option<u64> {
     u64::try_from(value.as_integer()?).ok()
 }

@@ -10,7 +10,7 @@ use amo_plan::{Plan, PlanFault, read_plan};
 use amo_render::fault_text;
 use std::alloc::{AllocError, Global};
 
-/// The line `taken`, and what the plan asks for.
+/// Returns the line `taken`, and the request of the plan.
 fn taken(alloc: Global, plan: &Plan) -> Result<String, AllocError>
     ensures { IfOk result (λ s. BeginsWith (codes "taken\n") (string_bytes s)) }
 {
@@ -20,7 +20,7 @@ fn taken(alloc: Global, plan: &Plan) -> Result<String, AllocError>
     Ok(text)
 }
 
-/// The line of a fault of these bytes, and what is wrong.
+/// Returns the line of a fault of these bytes, and its explanation.
 fn refused(alloc: Global, bytes: &[u8], fault: &PlanFault) -> Result<String, AllocError>
     ensures { IfOk result (λ s. BeginsWith (fault_line fault.now) (string_bytes s)) }
 {
@@ -30,8 +30,11 @@ fn refused(alloc: Global, bytes: &[u8], fault: &PlanFault) -> Result<String, All
     Ok(text)
 }
 
-/// What the bytes of a plan ask for, or why they are none, in plain words. The only error is want
-/// of memory.
+/// Returns the request of a plan in plain words, or the reason why the bytes are not a plan.
+///
+/// # Errors
+///
+/// `AllocError` if there was no memory.
 pub fn explanation(alloc: Global, bytes: &[u8]) -> Result<String, AllocError>
     ensures head { IfOk result (λ s. BeginsWith (explanation_head (plan_of bytes.now)) (string_bytes s)) }
 {

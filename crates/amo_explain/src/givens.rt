@@ -1,10 +1,10 @@
-//! Why numbers of jobs and workers and a threshold are no givens.
+//! The reasons why numbers of jobs and workers and a threshold are outside their limits.
 use crate::document::Document;
 use crate::wording::push_line;
 use amo_givens::{GivensFault, MAX_BETA, MAX_JOBS, MAX_WORKERS};
 use std::alloc::AllocError;
 
-/// Appends the key of a number, and what it is.
+/// Appends the key of a number, and its value.
 fn push_number(out: &mut String, document: &Document<'_>, key: &str) -> Result<(), AllocError> {
     let number = document.natural(key).unwrap_or(0);
     push_line(out, document.line_of(0, key))?;
@@ -28,7 +28,7 @@ fn push_many_jobs(out: &mut String, document: &Document<'_>) -> Result<(), Alloc
     }
 }
 
-/// Appends why the givens are none.
+/// Appends the reason why the givens are outside their limits.
 pub(crate) fn push_bad_givens(
     out: &mut String,
     document: &Document<'_>,

@@ -1,4 +1,4 @@
-//! What is wrong with the name or the sum of a job.
+//! The faults of the name or the sum of a job.
 use crate::document::Document;
 use crate::wording::{push_line, push_quoted};
 use std::alloc::AllocError;
@@ -7,7 +7,7 @@ use std::alloc::AllocError;
 const NAME_RULE: &str =
     " A name has 1 to 64 characters: letters from a to z and A to Z, digits, `_`, `-` and `.`.\n";
 
-/// The first job before this one that has its name.
+/// Returns the first job before this one that has its name.
 fn namesake(document: &Document<'_>, job: u32) -> Option<u32> {
     let name = document.name_of_job(job)?;
     for other in 1..job {
@@ -39,7 +39,7 @@ fn is_of_name(c: char) -> bool {
     c.is_ascii_alphanumeric() || c == '_' || c == '-' || c == '.'
 }
 
-/// Appends what is wrong with a name that isn't empty.
+/// Appends the fault of a name that isn't empty.
 fn push_flaw(out: &mut String, name: &str) -> Result<(), AllocError> {
     for c in name.chars() {
         if c == ' ' {
@@ -61,7 +61,7 @@ fn push_wrong(out: &mut String, c: char) -> Result<(), AllocError> {
     out.push_str(".")
 }
 
-/// Appends that the name of a job is none.
+/// Appends the fault of the name of a job.
 pub(crate) fn push_bad_name(
     out: &mut String,
     document: &Document<'_>,

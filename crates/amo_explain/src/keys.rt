@@ -1,4 +1,4 @@
-//! Which key a plan doesn't have, and which one is missing.
+//! Keys that a plan doesn't have, and keys that are missing.
 use crate::document::Document;
 use crate::walk::{Form, Named};
 use crate::wording::{push_line, push_quoted};
@@ -21,7 +21,7 @@ fn has(keys: &[&str], key: &str) -> bool {
     keys.iter().any(|known| *known == key)
 }
 
-/// The keys of a job, or of the top level for 0.
+/// Returns the keys of a job, or of the top level for 0.
 fn keys_of(job: u32) -> &'static [&'static str] {
     if job == 0 { &TOP_KEYS } else { &JOB_KEYS }
 }
@@ -31,7 +31,7 @@ fn is_key(document: &Document<'_>, job: u32, key: &str) -> bool {
     has(keys_of(job), key) && (key != "block" || document.natural("version") == Some(2))
 }
 
-/// The first key that the text names there and that no plan has.
+/// Returns the first key that the text names there and that no plan has.
 fn unknown_name<'a>(document: &'a Document<'_>, job: u32) -> Option<&'a Named> {
     let table = document.table(job)?;
     for name in document.names.iter() {
@@ -43,7 +43,7 @@ fn unknown_name<'a>(document: &'a Document<'_>, job: u32) -> Option<&'a Named> {
     None
 }
 
-/// A key of the tree there that no plan has.
+/// Returns a key of the tree there that no plan has.
 fn unknown_key<'a>(document: &'a Document<'_>, job: u32) -> Option<&'a str> {
     for key in document.table(job)?.keys() {
         if !is_key(document, job, key.as_str()) {
@@ -53,7 +53,7 @@ fn unknown_key<'a>(document: &'a Document<'_>, job: u32) -> Option<&'a str> {
     None
 }
 
-/// The nearest of these keys, where one is near, whatever letters are capitals.
+/// Returns the nearest of these keys, if one is near, whatever letters are capitals.
 fn nearest(
     alloc: Global,
     keys: &'static [&'static str],
@@ -123,7 +123,7 @@ fn push_meant(
     }
 }
 
-/// Appends what is wrong with a key of the top level.
+/// Appends the fault of a key of the top level.
 fn push_unknown_at_top(
     alloc: Global,
     out: &mut String,
@@ -145,7 +145,7 @@ fn push_unknown_at_top(
     push_meant(alloc, out, 0, key, form)
 }
 
-/// Appends what is wrong with a key of a job.
+/// Appends the fault of a key of a job.
 fn push_unknown_in_job(
     alloc: Global,
     out: &mut String,

@@ -1,4 +1,4 @@
-//! Which value is of another kind than its key has.
+//! Values of another kind than their keys have.
 use crate::document::{Document, natural};
 use crate::walk::Form;
 use crate::wording::{kind_of, push_count, push_line};
@@ -6,7 +6,7 @@ use amo_plan::MOST_IN_BLOCK;
 use std::alloc::AllocError;
 use toml::Value;
 
-/// Appends what a value is that has to be a whole number, and not negative.
+/// Appends the fault of a value that must be a whole number, and not negative.
 fn push_no_natural(out: &mut String, value: &Value) -> Result<(), AllocError> {
     match value {
         Value::Integer(number) => write!(out, "is {number}, and may not be negative."),
@@ -32,7 +32,7 @@ fn push_number(
     write!(out, " Write it as `{example}`.\n")
 }
 
-/// The value at a key, if it is no whole number.
+/// Returns the value at a key, if it is no whole number.
 fn no_natural<'a>(document: &'a Document<'_>, key: &str) -> Option<&'a Value> {
     let value = document.value(key)?;
     match natural(value) {
@@ -115,7 +115,7 @@ fn push_jobs(out: &mut String, document: &Document<'_>) -> Result<bool, AllocErr
     Ok(true)
 }
 
-/// Appends that the schedule is no text, if so.
+/// Appends that the schedule isn't a text, if so.
 fn push_schedule(out: &mut String, document: &Document<'_>) -> Result<bool, AllocError> {
     let Some(value) = document.value("schedule") else {
         return Ok(false);
@@ -158,7 +158,7 @@ fn push_member(out: &mut String, members: &[Value]) -> Result<bool, AllocError> 
     Ok(false)
 }
 
-/// Appends what is wrong with the budgets.
+/// Appends the fault of the budgets.
 fn push_budgets(out: &mut String, document: &Document<'_>) -> Result<(), AllocError> {
     let Some(value) = document.value("budgets") else {
         return Ok(());
@@ -228,7 +228,7 @@ fn push_key_of_job(
     write!(out, " is {kind}")
 }
 
-/// Appends what is wrong with the numbers of a job.
+/// Appends the fault of the numbers of a job.
 fn push_add(
     out: &mut String,
     document: &Document<'_>,

@@ -3,8 +3,8 @@ ghost use Rattle.std.specs.Prelude.{◌↔◌, ℕ, List, codes, IsOk};
 ghost use Rattle.amo_plan.specs.Plan.{plan_of};
 ghost use Rattle.amo_explain.specs.Heading.{BeginsWith, explanation_head};
 
-/// A text that begins as the explanation does begins with the line `taken` just where the bytes are
-/// a plan.
+/// States that a text that begins as the explanation does begins with the line `taken` exactly if
+/// the bytes are a plan.
 pub fn taken_is_a_plan()
     ensures { (bytes text : List ℕ) → BeginsWith (explanation_head (plan_of bytes)) text
         → BeginsWith (codes "taken\n") text ↔ IsOk (plan_of bytes) }

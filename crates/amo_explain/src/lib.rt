@@ -1,8 +1,8 @@
-//! What a text that is to be a plan says, or what is wrong with it, in plain words.
+//! Explanations of plans, and of texts that should be plans, in plain words.
 //!
-//! `explanation` begins with the line `taken`, or with the line of the fault; that is proved. The
-//! sentences below that line name the place and the word that the fault leaves out: they are looked
-//! for again in the tree and in the text, and are only tested.
+//! Start at [`explanation`]. Its text begins with the line `taken`, or with the line of the fault;
+//! that is proved. The sentences below that line name the place and the word that the fault leaves
+//! out. This crate searches for them again in the tree and in the text. They are only tested.
 #![tactic(auto)]
 
 mod asked;

@@ -1,4 +1,4 @@
-//! Which limit a plan is above.
+//! Limits that a plan is above.
 use crate::document::{Document, natural};
 use crate::schedule::moves_in;
 use crate::wording::push_line;
@@ -7,7 +7,7 @@ use amo_plan::{MOST_MOVES, MOST_ROUNDS};
 use std::alloc::AllocError;
 use toml::Value;
 
-/// The first budget above the limit, and the worker that it is for.
+/// Returns the first budget above the limit, and the worker that it is for.
 fn large_budget(document: &Document<'_>) -> Option<(usize, u64)> {
     let Some(Value::Array(budgets)) = document.value("budgets") else {
         return None;

@@ -1,4 +1,4 @@
-//! Why a text is no plan, fault by fault.
+//! The reasons why a text is not a plan, fault by fault.
 use crate::broken::push_broken;
 use crate::document::Document;
 use crate::givens::push_bad_givens;
@@ -10,7 +10,7 @@ use crate::schedule::{push_bad_word, push_no_worker};
 use amo_plan::{MOST_BYTES, PlanFault};
 use std::alloc::{AllocError, Global};
 
-/// Appends why a document is no plan.
+/// Appends the reason why a document is not a plan.
 fn push_reason(
     alloc: Global,
     out: &mut String,
@@ -32,7 +32,7 @@ fn push_reason(
     }
 }
 
-/// Why these bytes are no plan, as this fault says it.
+/// Returns why these bytes are no plan, as this fault says it.
 pub(crate) fn reason_of(
     alloc: Global,
     bytes: &[u8],

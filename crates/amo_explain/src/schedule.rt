@@ -1,4 +1,4 @@
-//! What is wrong with a word of the schedule.
+//! The faults of a word of the schedule.
 use crate::document::Document;
 use crate::wording::{push_count, push_line, push_quoted};
 use amo_plan::{HIGHEST_IN_WORD, number_within};
@@ -9,7 +9,7 @@ fn is_space(byte: u8) -> bool {
     matches!(byte, b' ' | b'\t' | b'\n' | b'\r')
 }
 
-/// The word in this place, from 1; empty where there is none.
+/// Returns the word in this place, from 1. It is empty if the text has fewer words.
 fn word_in(text: &str, place: u64) -> &str {
     let mut at = 0u64;
     for word in text.as_bytes().split(|byte| is_space(*byte)) {
@@ -24,12 +24,12 @@ fn word_in(text: &str, place: u64) -> &str {
     ""
 }
 
-/// The number that a part of a word is.
+/// Returns the number that a part of a word is.
 fn number(text: &str) -> Option<u64> {
     number_within(1, HIGHEST_IN_WORD, text.as_bytes())
 }
 
-/// How many moves a word is, if it is one.
+/// Returns how many moves a word is, if it is one.
 fn count_in(word: &str) -> u64 {
     match word.split_once("*") {
         Some((_, count)) => number(count).unwrap_or(0),
@@ -37,7 +37,7 @@ fn count_in(word: &str) -> u64 {
     }
 }
 
-/// How many moves a schedule has, each word of which is one.
+/// Returns how many moves a schedule has, each word of which is one.
 pub(crate) fn moves_in(text: &str) -> u64 {
     let mut moves = 0u64;
     for word in text.as_bytes().split(|byte| is_space(*byte)) {
@@ -48,7 +48,7 @@ pub(crate) fn moves_in(text: &str) -> u64 {
     moves
 }
 
-/// The worker that a word names, if it is one of this version.
+/// Returns the worker that a word names, if it is one of this version.
 fn worker_of(version: Option<u64>, word: &str) -> Option<u64> {
     if let Some(rest) = word.strip_prefix("x") {
         return number(rest);
@@ -72,7 +72,7 @@ fn is_digits(text: &str) -> bool {
     !text.is_empty() && text.bytes().all(|byte| byte.is_ascii_digit())
 }
 
-/// What to write in place of numbers that can't be read.
+/// Returns a text to write in place of numbers that can't be read.
 fn hint_of_numbers(text: &str) -> &'static str {
     let (worker, count) = text.split_once("*").unwrap_or((text, "1"));
     if worker == "0" {
@@ -92,7 +92,7 @@ fn hint_of_numbers(text: &str) -> &'static str {
     }
 }
 
-/// What to write in place of a word that can't be read, before this one.
+/// Returns a text to write in place of a word that can't be read, before this one.
 fn hint_of(version: Option<u64>, word: &str, next: &str) -> &'static str {
     let bare = match word.strip_prefix("x") {
         Some(rest) => rest,
@@ -149,7 +149,7 @@ fn push_word(
     write!(out, ", word {place} of the schedule, ")
 }
 
-/// Appends that the word in this place of the schedule is none.
+/// Appends that the word in this place of the schedule is invalid.
 pub(crate) fn push_bad_word(
     alloc: Global,
     out: &mut String,
@@ -164,7 +164,7 @@ pub(crate) fn push_bad_word(
     push_hint(alloc, out, document.natural("version"), word, next)
 }
 
-/// The worker and the count of a word that would be read with the two turned round.
+/// Returns the worker and the count of a word that would be read with the two turned round.
 fn turned(workers: u64, word: &str) -> Option<(u64, u64)> {
     let (count, worker) = word.split_once("*")?;
     let (count, worker) = (number(count)?, number(worker)?);

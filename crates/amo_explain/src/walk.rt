@@ -1,4 +1,4 @@
-//! Which keys a text names, and where they stand.
+//! The keys that a text names, and their places.
 use std::alloc::{AllocError, Global};
 use toml_parser::text::{byte_at, first, skip, skip_blank, skip_ws};
 use toml_parser::{Key, ParseError, dotted_key, quoted, starts_string};
@@ -25,26 +25,26 @@ pub(crate) struct Named {
     pub(crate) key: String,
     /// How it stands there.
     pub(crate) form: Form,
-    /// How many bytes of the text are left where it stands.
+    /// How many bytes of the text are left at its place.
     pub(crate) left: usize,
 }
 
-/// Whose keys come next.
+/// The owner of the keys that come next.
 #[derive(Clone, Copy, Debug, PartialEq, Eq)]
 enum Place {
-    /// Those of the top level.
+    /// The top level.
     Top,
-    /// Those of the job that a header has begun.
+    /// The job that a header has begun.
     Job,
-    /// Those of a table that no plan has.
+    /// A table that no plan has.
     Elsewhere,
     /// None: members of the list of jobs.
     List,
-    /// Those of the job that is a member of that list.
+    /// The job that is a member of that list.
     Member,
 }
 
-/// What follows the first character, an ASCII one; nothing where it is another.
+/// Returns the text after the first character, if that is an ASCII one, or else an empty text.
 fn after_byte(text: &str) -> &str {
     let byte = first(text);
     if 0 < byte && byte < 128 {
@@ -54,12 +54,12 @@ fn after_byte(text: &str) -> &str {
     }
 }
 
-/// What follows a byte order mark, if one stands at the front.
+/// Returns the text after a byte order mark, if one stands at the front.
 fn after_mark(text: &str) -> &str {
     text.strip_prefix("\u{feff}").unwrap_or(text)
 }
 
-/// What follows a text in quotes; nothing where it has no end.
+/// Returns the text after a text in quotes. It is empty if that has no end.
 fn after_text(alloc: Global, text: &str) -> Result<&str, AllocError> {
     if !starts_string(text) {
         return Ok("");
@@ -77,7 +77,7 @@ fn ends_value(byte: u8) -> bool {
     matches!(byte, 0 | b'\n' | b'\r' | b',' | b']' | b'}' | b'#')
 }
 
-/// How many brackets are open after this byte.
+/// Returns how many brackets are open after this byte.
 fn depth_after(depth: usize, byte: u8) -> usize {
     match byte {
         b'[' | b'{' => depth.saturating_add(1),
@@ -86,7 +86,7 @@ fn depth_after(depth: usize, byte: u8) -> usize {
     }
 }
 
-/// What follows a value.
+/// Returns the text after a value.
 fn after_value(alloc: Global, text: &str) -> Result<&str, AllocError> {
     let mut rest = text;
     let mut depth = 0usize;
@@ -107,7 +107,7 @@ fn after_value(alloc: Global, text: &str) -> Result<&str, AllocError> {
     Ok(rest)
 }
 
-/// A key and what follows it, if one stands at the front.
+/// Returns a key and what follows it, if one stands at the front.
 fn key_at(alloc: Global, text: &str) -> Result<Option<(Key, &str)>, AllocError> {
     match dotted_key(alloc, text) {
         Ok((key, rest)) => Ok(Some((key, rest))),
@@ -116,7 +116,7 @@ fn key_at(alloc: Global, text: &str) -> Result<Option<(Key, &str)>, AllocError> 
     }
 }
 
-/// The first part of a key that may have dots.
+/// Returns the first part of a key that may have dots.
 fn first_part(key: &Key) -> &str {
     match key.path.first() {
         Some(part) => part.as_str(),
@@ -124,7 +124,7 @@ fn first_part(key: &Key) -> &str {
     }
 }
 
-/// The second part.
+/// Returns the second part.
 fn second_part(key: &Key) -> Option<&str> {
     if key.path.is_empty() {
         return None;
@@ -135,7 +135,7 @@ fn second_part(key: &Key) -> Option<&str> {
     }
 }
 
-/// What follows the brackets at the front: two around the name of a list, else one.
+/// Returns the text after the brackets at the front: two around the name of a list, else one.
 fn after_brackets(text: &str, form: Form) -> &str {
     let rest = after_byte(text);
     if form == Form::List {
@@ -145,8 +145,8 @@ fn after_brackets(text: &str, form: Form) -> &str {
     }
 }
 
-/// A walk over a text: the keys that it came by, whose keys come next, how many jobs have begun,
-/// and what is left of the text.
+/// A walk over a text. It has the keys that it came by, the owner of the keys that come next, the
+/// number of jobs that have begun, and the rest of the text.
 #[derive(Drop)]
 struct Walk<'a> {
     alloc: Global,
@@ -157,7 +157,7 @@ struct Walk<'a> {
 }
 
 impl<'a> Walk<'a> {
-    /// The walk before its first key.
+    /// Returns the walk before its first key.
     fn new(alloc: Global, text: &'a str) -> Walk<'a> {
         Walk {
             alloc,
@@ -273,8 +273,8 @@ impl<'a> Walk<'a> {
     }
 }
 
-/// The keys that a text names, in its order. A text that TOML doesn't read is walked over as far as
-/// it can be.
+/// Returns the keys that a text names, in its order. A text that TOML doesn't read is walked over
+/// as far as it can be.
 pub(crate) fn names_in(alloc: Global, text: &str) -> Result<Vec<Named>, AllocError> {
     let mut walk = Walk::new(alloc, text);
     for _step in 0..text.len() {

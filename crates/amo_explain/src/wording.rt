@@ -28,7 +28,7 @@ pub(crate) fn push_quoted(out: &mut String, text: &str) -> Result<(), AllocError
     out.push('`')
 }
 
-/// Appends the line in which something stands, where it was found.
+/// Appends the line of a place, if it was found.
 pub(crate) fn push_line(out: &mut String, line: Option<usize>) -> Result<(), AllocError> {
     match line {
         Some(line) => write!(out, "Line {line}: "),
@@ -36,7 +36,7 @@ pub(crate) fn push_line(out: &mut String, line: Option<usize>) -> Result<(), All
     }
 }
 
-/// Appends a number and the word for what it counts.
+/// Appends a number and the word for the counted things.
 pub(crate) fn push_count(
     out: &mut String,
     count: u64,
@@ -47,7 +47,7 @@ pub(crate) fn push_count(
     write!(out, "{count} {word}")
 }
 
-/// What kind of value this is.
+/// Returns the word for the kind of this value.
 pub(crate) fn kind_of(value: &Value) -> &'static str {
     match value {
         Value::String(_) => "a text",

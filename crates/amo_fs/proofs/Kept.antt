@@ -1,4 +1,4 @@
--- What a device keeps of its file, after writes that came about and writes that didn't.
+-- The content that a device keeps of its file, after writes that were made and writes that failed.
 use Rattle.std.proofs.Common.{◌≡◌, ◌⊎◌, ℕ, ◌+◌, ◌-◌, ◌≤◌, ◌<◌, List, [], ◌++◌, length, take, drop, min, refl, sym, ap, subst, ◌∙◌, arith, rules, inl, inr}
 use Rattle.std.proofs.lemmas.List.{take_all, take-append-drop, take-append-le, drop-append-le, length-take-le, length-drop, append-nil, append_assoc}
 use Rattle.std.proofs.Math.ListN.{drop_of_length-le}
@@ -13,7 +13,7 @@ whole_front old at bytes new holds = record {
   holds = subst (λ bs. Holds old at bs new) (sym (take_all (length bytes) bytes (omega arith))) holds;
 }
 
--- so are none
+-- without them it is so too
 pub no_front : (old : List ℕ) (at : ℕ) (bytes : List ℕ) → WritesFront old at bytes old
 no_front old at bytes = record {
   count = 0;
@@ -28,7 +28,8 @@ no_front old at bytes = record {
 pub uncut : (len : ℕ) (old : List ℕ) → Cut len old old
 uncut len old = record { no_shorter = omega arith; front = take_all (length old) old (omega arith) }
 
--- a write over the end in two parts: what comes to lie behind the end is added, and then what lies before it is written
+-- a write over the end in two parts: the bytes after the end are added first, and then those before
+-- it are written
 pub over_end : (old : List ℕ) (at : ℕ) (bytes new : List ℕ) (k : ℕ) → at ≤ length old → k ≡ min (length bytes) (length old - at)
     → Holds (old ++ drop k bytes) at (take k bytes) new → Holds old at bytes new
 over_end old at bytes new k fits is holds =

@@ -10,10 +10,11 @@ use std::io;
 use std::io::Read;
 use std::os::unix::fs::FileExt;
 
-/// A file of the system, open to read and write, which nobody else writes. What was read of it as
-/// it was opened, and written since, is kept in memory, and that is what a read returns. What a
-/// crash leaves of a file nothing here says: the device claims nothing of it, so what a journal
-/// promises of crashes is supposed of each file.
+/// `FileDevice`: a file of the system, open to read and write, that nobody else writes. It keeps in
+/// memory what was read of the file as it was opened, and written since. A read returns that.
+///
+/// Nothing here states what a crash leaves of a file. So we assume of each file what a journal
+/// promises of crashes.
 #[derive(Drop)]
 pub struct FileDevice {
     file: File,
@@ -22,8 +23,11 @@ pub struct FileDevice {
 }
 
 impl FileDevice {
-    /// The device over a file, all of which it reads. An error is the system's, or a want of
-    /// memory.
+    /// Returns the device over a file, all of which it reads.
+    ///
+    /// # Errors
+    ///
+    /// The system's error, or one of the kind `OutOfMemory`.
     pub fn open(alloc: Global, mut file: File) -> io::Result<FileDevice> {
         let mut bytes = Vec::new(alloc);
         file.read_to_end(&mut bytes)?;
@@ -34,8 +38,8 @@ impl FileDevice {
         })
     }
 
-    /// Counts a fault of the disk, and tells of it. After 2^64 - 1 of them it says that there is no
-    /// memory.
+    /// Counts a fault of the disk, and returns its error. After 2^64 - 1 faults it returns the
+    /// error for want of memory.
     fn failed(&mut self) -> DeviceError
         ensures bytes { self.new.bytes ≡ self.old.bytes }
         ensures later { self.old.faults ≤ self.new.faults }

@@ -1,11 +1,14 @@
-//! To make, read and replace files of a folder.
+//! Making, reading and replacing files of a folder.
 use std::fs::{DirBuilder, File, Files, OpenOptions};
 use std::io::{ErrorKind, Write};
 use std::os::unix::fs::{DirBuilderExt, MetadataExt, OpenOptionsExt};
 use std::{fs, io};
 
-/// What a file holds, or nothing where there is none of this name. Any other error is the system's:
-/// a file that can't be read is never taken for one that isn't there.
+/// Returns the content of a file, or `None` if no file has this name.
+///
+/// # Errors
+///
+/// The system's error. A file that can't be read is never taken for a missing one.
 pub fn read_file<R: Files + AllocGlobal>(rt: &R, path: &str) -> io::Result<Option<Vec<u8>>> {
     match fs::read(rt, path) {
         Ok(bytes) => Ok(Some(bytes)),
@@ -14,23 +17,34 @@ pub fn read_file<R: Files + AllocGlobal>(rt: &R, path: &str) -> io::Result<Optio
     }
 }
 
-/// Opens a file to read and write, and makes it where there is none, for its owner alone. The
-/// folder isn't synced.
+/// Opens a file to read and write, and makes it for its owner alone if it is missing. The folder
+/// isn't synced.
+///
+/// # Errors
+///
+/// The system's error.
 pub fn create_private<R: Files>(rt: &R, path: &str) -> io::Result<R::File> {
     let mut options = OpenOptions::new();
     options.read(true).write(true).create(true).mode(0o600);
     options.open(rt, path)
 }
 
-/// Opens a file that is there to read and write.
+/// Opens an existing file to read and write.
+///
+/// # Errors
+///
+/// The system's error.
 pub fn open_private<R: Files>(rt: &R, path: &str) -> io::Result<R::File> {
     let mut options = OpenOptions::new();
     options.read(true).write(true);
     options.open(rt, path)
 }
 
-/// Makes a folder for its owner alone. An error of the kind `AlreadyExists` says that something has
-/// this name.
+/// Makes a folder for its owner alone.
+///
+/// # Errors
+///
+/// The system's error. The kind `AlreadyExists` means that something has this name.
 pub fn make_folder<R: Files>(rt: &R, path: &str) -> io::Result<()> {
     let mut builder = DirBuilder::new();
     builder.mode(0o700);
@@ -38,14 +52,22 @@ pub fn make_folder<R: Files>(rt: &R, path: &str) -> io::Result<()> {
 }
 
 /// Syncs the folder of this path: from then on a power cut leaves the names that it has now.
+///
+/// # Errors
+///
+/// The system's error.
 pub fn sync_folder<R: Files<File = File>>(rt: &R, path: &str) -> io::Result<()> {
     fs::open(rt, path)?.sync_all()
 }
 
-/// Puts a file with these bytes in the place of one, or where there is none: makes it whole under
-/// the name `beside`, and renames it, so that who opens it meanwhile finds the one or the other.
-/// With `synced` the bytes are on the disk before they have the name, and the name before this
-/// answers; then a power cut leaves the old file or the new one.
+/// Replaces a file by one with these bytes, or makes it if it is missing. It makes the new file
+/// whole under the name `beside`, and renames it. So a reader that opens the file meanwhile finds
+/// the old or the new one. With `synced` the bytes are on the disk before they have the name, and
+/// the name before this call returns. A power cut then leaves the old file or the new one.
+///
+/// # Errors
+///
+/// The system's error. The name `beside` may then be left.
 pub fn replace_file<R: Files<File = File>>(
     rt: &R,
     folder: &str,
@@ -80,12 +102,13 @@ pub fn make_file<R: Files<File = File>>(rt: &R, path: &str, bytes: &[u8]) -> io:
     file.sync_all()
 }
 
-/// Makes a file with these bytes, unless something has this name: makes it whole and synced under
-/// the name `beside`, gives it its name by a link, and removes the name `beside`. So nobody finds a
-/// part of it, and nothing is ever replaced. The folder isn't synced.
+/// Makes a file with these bytes, unless something has this name. It makes the file whole and
+/// synced under the name `beside`, gives it its name by a link, and removes the name `beside`. So
+/// nobody finds a part of it, and nothing is ever replaced. The folder isn't synced.
 ///
 /// # Errors
-/// The system's. The name `beside` may then be left.
+///
+/// The system's error. The name `beside` may then be left.
 pub fn make_if_missing<R: Files<File = File>>(
     rt: &R,
     path: &str,
@@ -120,7 +143,11 @@ pub fn names_in<R: Files + AllocGlobal + Clone + Drop>(
     Ok(names)
 }
 
-/// Returns true if this process's user owns what has this name, itself no link.
+/// Returns true if this process's user owns the file with this name, and the name isn't a link.
+///
+/// # Errors
+///
+/// The system's error.
 pub fn is_mine<R: Files>(rt: &R, path: &str) -> io::Result<bool> {
     let found = fs::symlink_metadata(rt, path)?;
     let mine = fs::metadata(rt, "/proc/self")?;

@@ -1,7 +1,9 @@
-//! Files, locks, atomic replacement, and which file systems keep what is synced. Start with
-//! `replace_file` and `FileDevice`; `mount_of_id` finds the mount of an open handle. What a file
-//! holds, and what a crash leaves of it, no contract can state. Therefore each call on files is a
-//! few lines, does one thing, and is tested by failing each system call.
+//! Files of a run on a disk: reading, locks and atomic replacement, and the file systems that keep
+//! what is synced.
+//!
+//! Start at [`replace_file`] and [`FileDevice`]. [`mount_of_id`] finds the mount of an open handle.
+//! No contract can state the content of a file, or what a crash leaves of it. So each call on files
+//! is a few lines, does one thing, and is tested by failing each system call.
 #![tactic(auto)]
 
 mod device;

@@ -1,8 +1,8 @@
-//! Which types of file systems are taken without being named.
+//! The types of file systems that are taken unless the operator names others.
 ghost use Rattle.std.specs.Prelude.{◌≡◌};
 ghost use Rattle.amo_fs.specs.Local.{is_local};
 
-/// Returns whether a file system of this type is a machine's own, on a disk: ext2, ext3, ext4, xfs,
+/// Returns true if a file system of this type is a machine's own, on a disk: ext2, ext3, ext4, xfs,
 /// btrfs, f2fs or zfs.
 pub fn is_local(kind: &[u8]) -> bool
     ensures { result ≡ is_local kind.now }

@@ -4,14 +4,22 @@ use std::io::ErrorKind;
 use std::os::unix::fs::MetadataExt;
 use std::{fs, io};
 
-/// Takes the exclusive lock on a file, if nobody else holds a lock on it. Answers whether it has it
-/// now.
+/// Takes the exclusive lock on a file, if nobody else holds a lock on it. Returns true if it has
+/// the lock now. It doesn't wait.
+///
+/// # Errors
+///
+/// The system's error.
 pub fn try_exclusive(file: &File) -> io::Result<bool> {
     whether_got(file.try_lock())
 }
 
-/// Takes a shared lock on a file, if nobody else holds the exclusive one. Answers whether it has it
-/// now.
+/// Takes a shared lock on a file, if nobody else holds the exclusive one. Returns true if it has
+/// the lock now. It doesn't wait.
+///
+/// # Errors
+///
+/// The system's error.
 pub fn try_shared(file: &File) -> io::Result<bool> {
     whether_got(file.try_lock_shared())
 }
@@ -24,8 +32,12 @@ fn whether_got(tried: Result<(), TryLockError>) -> io::Result<bool> {
     }
 }
 
-/// Returns true if the file that is open is the one that has this name: else somebody has removed
+/// Returns true if the open file is the one that has this name. If it isn't, somebody has removed
 /// or replaced it, and a lock on it keeps nobody out.
+///
+/// # Errors
+///
+/// The system's error.
 pub fn is_at<R: Files>(rt: &R, file: &File, path: &str) -> io::Result<bool> {
     let open = file.metadata()?;
     match fs::metadata(rt, path) {

@@ -1,4 +1,4 @@
-//! Options by which a file system doesn't keep what is synced.
+//! Options with which a file system doesn't keep what is synced.
 ghost use Rattle.std.specs.Prelude.{◌≡◌, IfOk, IfSome, IfNone, map, option_map};
 ghost use Rattle.amo_fs.specs.Mounts.{seen};
 ghost use Rattle.amo_fs.specs.Options.{is_refused, first_refused, all_options, refused_option, refused_default, IsFirstRefused, NoneRefused};

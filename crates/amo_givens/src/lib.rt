@@ -1,7 +1,7 @@
 //! The parameters of a run, within their limits.
 //!
-//! Start at [`Givens`]: how many jobs and workers there are, and the threshold. [`Move`] is one
-//! choice of a schedule, and the constants are the limits.
+//! Start at [`Givens`]: the numbers of jobs and workers, and the threshold. [`Move`] is one choice
+//! of a schedule, and the constants are the limits.
 #![tactic(auto)]
 
 mod givens;

@@ -14,7 +14,7 @@ pub record Logs : Type 0 where
   pub findings : List Finding
   pub journals : List (List Attempt)
 
--- the same, once these texts are read too; none if they can't follow what was read
+-- the logs once these texts are read too; none if they can't follow what was read
 abbrev pub logs_after : Logs → LogFile → List (List ℕ) → Option Logs
 logs_after logs Answers texts = option_map (λ findings. record logs { findings = findings }) (findings_after logs.findings texts)
 logs_after logs (Journal worker) texts = option_map (λ journals. record logs { journals = journals }) (journals_after logs.count logs.journals worker texts)

@@ -1,4 +1,4 @@
--- What files of blocks stand for.
+-- The texts of files of blocks.
 use Rattle.std.proofs.Common.{◌≡◌, ◌≢◌, inl, inr, ℕ, zero, suc, ◌+◌, ◌<◌, ◌≤◌, Bool, true, false, cond, List, [], ◌∷◌, ◌++◌, length, get_or, take, drop, ◌-◌, Option, Some, None, refl, sym, ◌∙◌, ap, subst, arith, append_assoc, length-append}
 use Rattle.std.specs.Prelude.{◌==◌, IfNone}
 use Rattle.std.proofs.lemmas.List.{append-nil, take_all}
@@ -58,7 +58,7 @@ length-blocks_push (t ∷ texts) text =
 pub closed : (gate : ℕ) (rest : List ℕ) → gate ≢ 43 → texts_in (gate ∷ rest) ≡ []
 closed gate rest shut = ap (λ (t : Bool). cond t (texts_from rest (Some [])) []) (not_equal gate 43 shut)
 
--- a closed gate ends them, whatever stands behind it
+-- a closed gate ends them, whatever follows it
 pub texts_in_closed : (texts : List (List ℕ)) (gate : ℕ) (rest : List ℕ) → AreOneLine texts → gate ≢ 43 → texts_in (blocks texts ++ gate ∷ rest) ≡ texts
 texts_in_closed texts gate rest one shut =
     texts_in-blocks texts (gate ∷ rest) one ∙ ap (λ (l : List (List ℕ)). texts ++ l) (closed gate rest shut) ∙ append-nil texts
@@ -84,7 +84,7 @@ one_line_take (b ∷ bytes) (suc n) le none = (none 0 (omega arith), one_line_ta
 pub one_line : (bytes : List ℕ) → ((k : ℕ) → k < length bytes → get_or bytes k 0 ≢ 10) → IsOneLine bytes
 one_line bytes none = subst IsOneLine (take_all (length bytes) bytes (omega arith)) (one_line_take bytes (length bytes) (omega arith) none)
 
--- reading goes on behind a block
+-- reading goes on after a block
 pub block_read : (texts : List (List ℕ)) (text rest bytes : List ℕ) (all : List (List ℕ)) → texts ++ texts_in bytes ≡ all → bytes ≡ 43 ∷ text ++ 10 ∷ rest → IsOneLine text → (texts ++ text ∷ []) ++ texts_in rest ≡ all
 block_read texts text rest bytes all so_far is one =
     append_assoc texts (text ∷ []) (texts_in rest) ∙ ap (λ (l : List (List ℕ)). texts ++ l) (sym (ap texts_in is ∙ texts_in_block text rest one)) ∙ so_far

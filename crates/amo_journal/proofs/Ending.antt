@@ -1,4 +1,5 @@
--- What a crash or a kill leaves while what stands behind the blocks is cut, and the gate behind them closed.
+-- A crash or a kill while the bytes after the blocks are cut, and the gate after the blocks is
+-- closed.
 use Rattle.std.proofs.Common.{◌≡◌, ◌≢◌, ◌⊎◌, inl, inr, ⊎_elim, ℕ, ◌+◌, ◌-◌, ◌<◌, ◌≤◌, List, [], ◌∷◌, ◌++◌, length, take, drop, refl, sym, ◌∙◌, ap, subst, arith, append_assoc, length-append, length-drop, length-take, take-append-drop}
 use Rattle.std.specs.List.{slice_get}
 use Rattle.std.proofs.lemmas.List.{take_at, take_all, drop_all, append-nil}
@@ -36,7 +37,7 @@ module _ (texts : List (List ℕ)) (all : AreOneLine texts) (end : ℕ) (stands 
   pub within : (file : List ℕ) → texts_in file ≡ texts → end ≤ length file
   within file is = omega (arith, ap length (with_end file is), length-append (blocks texts) (parts file).end, stands)
 
-  -- where a cut is that keeps the blocks, and one byte more if there is one
+  -- a cut that keeps the blocks, and one byte more if there is one
   pub cut_near : (file : List ℕ) (keep len : ℕ) → texts_in file ≡ texts → len ≡ length file → (end ≤ len → (end ≤ keep) × (keep ≤ end + 1)) → (end ≤ keep) × (keep ≤ end + 1)
   cut_near file keep len is long near = let inside = within file is in near (omega (arith, inside, long))
 
@@ -71,7 +72,7 @@ module _ (texts : List (List ℕ)) (all : AreOneLine texts) (end : ℕ) (stands 
         one = omega (arith, ap length split, length-append (blocks texts) (take (length c - length (blocks texts)) (parts d).end), short, stands);
       }
 
-  -- one byte behind the blocks is no block
+  -- one byte after the blocks is no block
   short_texts : (c : List ℕ) → IsShort texts c → texts_in c ≡ texts
   short_texts c s = nothing_more s.rest c s.file_is (short_nothing s.rest s.one)
 
@@ -143,7 +144,7 @@ pub not_outside : (i : ℕ) → IsOutside i 1 i → ⊥
 not_outside i (inl lt) = omega arith
 not_outside i (inr le) = omega arith
 
--- a place behind the blocks of what is read is unsure
+-- a place after the blocks of what is read is unsure
 behind_blocks : (texts : List (List ℕ)) (read : List ℕ) (i : ℕ) → texts_in read ≡ texts → length (blocks texts) ≤ i → IsUnsure (texts_in read) i
 behind_blocks texts read i is far = subst (λ (ts : List (List ℕ)). IsUnsure ts i) (sym is) (inr far)
 
@@ -161,7 +162,7 @@ module _ {D : Type 0} (moment : D → ℕ) (left_since : D → ℕ → List ℕ 
       keeps_texts moment left_since seen may_leave stale texts old new _ run crash keeps read
       (λ i st. behind_blocks texts (seen new) i read (⊎_elim (fresh i) (cut_unsure texts all end stands keep (may_leave old) (seen old) (seen new) le kept refl cut i) (unsure i st)))
 
-  -- and where it is done: one byte stands behind the blocks at most
+  -- and once it is done: at most one byte follows the blocks
   pub is_cut_off : (old new : D) (end keep : ℕ) → end ≤ keep → keep ≤ end + 1 → end ≡ length (blocks (texts_in (seen old))) → ((c : List ℕ) → may_leave old c → texts_in c ≡ texts_in (seen old))
       → ((i : ℕ) → stale old i → length (blocks (texts_in (seen old))) ≤ i) → Cut keep (seen old) (seen new) → seen new ≡ take keep (seen old) → ((c : List ℕ) → may_leave new c → CutFrom keep (may_leave old) c)
       → ((c : List ℕ) → may_leave new c → AgreesBut (λ i. stale old i × (i < keep)) (seen new) c) → ((i : ℕ) → stale new i → stale old i × (i < keep))
@@ -190,7 +191,7 @@ module _ {D : Type 0} (moment : D → ℕ) (left_since : D → ℕ → List ℕ 
       keeps_texts moment left_since seen may_leave stale texts old new _ run crash (close_crash texts all end stands (seen new) (may_leave old) s.crash) read
       (λ i st. behind_blocks texts (seen new) i read (⊎_elim (there i) (close_unsure texts all end stands (seen old) (seen new) (may_leave old) s.read s.crash front i) (unsure i st)))
 
-  -- and where it is done
+  -- and once it is done
   pub is_closed : (texts : List (List ℕ)) (old new : D) (end : ℕ) → AreOneLine texts → end ≡ length (blocks texts) → IsCut seen may_leave stale texts old → Holds (seen old) end (45 ∷ []) (seen new)
       → ((c : List ℕ) → may_leave new c → AgreesBut (λ i. stale old i × IsOutside end 1 i) (seen new) c) → ((i : ℕ) → stale new i → stale old i × IsOutside end 1 i) → IsAtRest seen may_leave stale new
   is_closed texts old new end all stands s holds durable fresh =

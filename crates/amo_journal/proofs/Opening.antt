@@ -1,4 +1,4 @@
--- What a crash or a kill leaves while the last gate is written again.
+-- A crash or a kill while the last gate is written again.
 use Rattle.std.proofs.Common.{◌≡◌, ◌≢◌, inl, inr, ⊎_elim, ℕ, ◌+◌, ◌<◌, ◌≤◌, List, [], ◌∷◌, ◌++◌, length, get_or, take, drop, Some, refl, sym, ◌∙◌, ap, subst, arith, append_assoc, length-append, take-append-drop}
 use Rattle.std.specs.List.{slice_get}
 use Rattle.std.proofs.lemmas.Bool.{cases_eq, cases_lt}
@@ -52,7 +52,7 @@ pub stays_texts : (texts : List (List ℕ)) (outcomes : List ℕ → Type 0) (c 
 stays_texts texts outcomes c all (inl is) = inl is
 stays_texts texts outcomes c all (inr (shut, some)) = inr (shut.last, shut.texts_are ∙ ap (λ (ts : List (List ℕ)). ts ++ shut.last ∷ []) (sym (shut_texts texts c all shut)))
 
--- where no outcome had it closed, it stays open
+-- if no outcome had it closed, it stays open
 pub stays_open : (texts : List (List ℕ)) (outcomes : List ℕ → Type 0) (c : List ℕ) → AreOneLine texts → ((d : List ℕ) → outcomes d → texts_in d ≡ texts) → StaysNear outcomes texts c → texts_in c ≡ texts
 stays_open texts outcomes c all kept (inl is) = is
 stays_open texts outcomes c all kept (inr (shut, some)) =
@@ -73,7 +73,7 @@ pub stays_more : (texts : List (List ℕ)) (less more : List ℕ → Type 0) (c 
 stays_more texts less more c wider (inl is) = inl is
 stays_more texts less more c wider (inr (shut, some)) = inr (shut, (some.0, wider some.0 some.1, some.2))
 
--- where the last text and its gate stand, if it has n bytes
+-- the places of the last text and its gate, if it has n bytes
 pub record IsLast (texts : List (List ℕ)) (end n : ℕ) : Type 0 where
   pub before : List (List ℕ)
   pub last : List ℕ

@@ -1,4 +1,4 @@
--- What stands at a place of a list, and lists that have the same at each place.
+-- The byte at a place of a list, and lists that have the same byte at each place.
 use Rattle.std.proofs.Common.{◌≡◌, ◌≢◌, ℕ, zero, suc, ◌+◌, ◌<◌, ◌≤◌, List, [], ◌∷◌, ◌++◌, length, Some, None, refl, sym, ◌∙◌, ap, arith, ◌⊎◌, inl, inr, ⊎_elim, length-append}
 use Rattle.std.specs.List.{slice_get}
 use Rattle.std.proofs.lemmas.Bool.{cases_lt}
@@ -36,7 +36,7 @@ stays_of at n read old new torn i b stood reads =
     (torn.each i here.0 here.1) in
     here.1 ∙ ap (λ (x : ℕ). Some x) same
 
--- where no place is left out
+-- if no place is left out
 pub agrees_all : (places : ℕ → Type 0) (read file : List ℕ) → AgreesBut places read file → ((i : ℕ) → places i → ⊥) → file ≡ read
 agrees_all places read file agrees none = same_list file read (λ i. agrees i (none i))
 
@@ -61,7 +61,7 @@ ends_before [] i none = omega arith
 ends_before (x ∷ xs) zero none = absurd (cc none)
 ends_before (x ∷ xs) (suc i) none = let rest = ends_before xs i none in omega arith
 
--- lists with one front differ behind it
+-- lists with one front differ after it
 pub differ_behind : (xs ys zs : List ℕ) (i : ℕ) → slice_get (xs ++ ys) i ≢ slice_get (xs ++ zs) i → length xs ≤ i
 differ_behind xs ys zs i isnt = elim (cases_lt i (length xs)) [
   | inl lt ↦ absurd (isnt (get-front xs ys i lt ∙ sym (get-front xs zs i lt)))
@@ -75,7 +75,7 @@ differ_at [] a b ys (suc i) isnt = absurd (isnt refl)
 differ_at (x ∷ xs) a b ys zero isnt = absurd (isnt refl)
 differ_at (x ∷ xs) a b ys (suc i) isnt = let rest = differ_at xs a b ys i isnt in omega arith
 
--- lists that are one but for one place and what stands far behind it
+-- lists that are equal but for one place and the bytes far after it
 pub differ_at_or_behind : (xs : List ℕ) (a b : ℕ) (ys zs us : List ℕ) (i : ℕ) → slice_get (xs ++ (a ∷ ys ++ zs)) i ≢ slice_get (xs ++ (b ∷ ys ++ us)) i → (i ≡ length xs) ⊎ (length xs + (1 + length ys) ≤ i)
 differ_at_or_behind [] a b ys zs us zero isnt = inl refl
 differ_at_or_behind [] a b ys zs us (suc i) isnt = let far = differ_behind ys zs us i isnt in inr (omega arith)

@@ -1,4 +1,4 @@
--- What a crash or a kill leaves in each of the two steps of a put.
+-- A crash or a kill in each of the two steps of a put.
 use Rattle.std.proofs.Common.{◌≡◌, ◌≢◌, ◌⊎◌, inl, inr, ⊎_elim, ℕ, ◌+◌, List, [], ◌∷◌, ◌++◌, length, get_or, take, drop, Some, refl, sym, ◌∙◌, ap, subst, arith, append_assoc, length-append, take-append-drop}
 use Rattle.std.specs.List.{slice_get}
 use Rattle.std.proofs.lemmas.Bool.{cases_eq, cases_lt}
@@ -11,11 +11,11 @@ use Rattle.amo_journal.proofs.Moments.{IsOnDisk, KeepsTexts, keeps_texts, leaves
 use Rattle.amo_journal.proofs.Parts.{texts_are_one_line}
 use Rattle.amo_journal.proofs.Places.{agrees_all, stays_of, get-seam, differ_behind, differ_at}
 
--- what stands behind a gate
+-- the bytes after a gate
 abbrev pub behind : List ℕ → List ℕ
 behind text = text ++ 10 ∷ 45 ∷ []
 
--- the file with a block behind the closed gate
+-- the file with a block after the closed gate
 abbrev pub staged : List (List ℕ) → List ℕ → List ℕ
 staged texts text = blocks texts ++ 45 ∷ behind text
 
@@ -123,7 +123,7 @@ module _ (texts : List (List ℕ)) (all : AreOneLine texts) (gate : ℕ) (stands
   pub gate_texts : (text seen : List ℕ) → IsOneLine text → WritesFront (staged texts text) gate (43 ∷ []) seen → IsBeforeOrAfter texts text seen
   gate_texts text seen one w = ⊎_elim (λ is. inl (texts_staged text seen is)) (λ is. inr (texts_opened text seen one is)) (gate_read text seen w)
 
-  -- where it isn't, the closed gate stays on the disk
+  -- if it isn't, the closed gate stays on the disk
   stays_closed : (text read old c : List ℕ) → old ≡ staged texts text → read ≡ staged texts text → Torn gate 1 read old c → c ≡ staged texts text
   stays_closed text read old c is reads torn =
       let at_gate = get-seam (blocks texts) 45 (behind text) gate stands in
@@ -182,7 +182,7 @@ module _ {D : Type 0} (moment : D → ℕ) (left_since : D → ℕ → List ℕ 
       keeps_texts moment left_since seen may_leave stale texts old new _ run crash (stage_crash texts all gate stands (length bytes) (seen new) (may_leave old) only) (stage_read texts all gate stands bytes (seen new) w)
       (λ i st. ⊎_elim (λ was. absurd (rest.fresh i was)) (stage_unsure texts all gate stands (length bytes) bytes (seen new) (may_leave old) only w i) (unsure i st))
 
-  -- and where it is done: the block stands behind the closed gate
+  -- and once it is done: the block follows the closed gate
   pub is_staged : (old new : D) (gate : ℕ) (text bytes : List ℕ) → IsAtRest seen may_leave stale old → gate ≡ length (blocks (texts_in (seen old))) → bytes ≡ behind text → Holds (seen old) (gate + 1) bytes (seen new)
       → ((c : List ℕ) → may_leave new c → AgreesBut (λ i. stale old i × IsOutside (gate + 1) (length bytes) i) (seen new) c)
       → ((i : ℕ) → stale new i → stale old i × IsOutside (gate + 1) (length bytes) i) → IsOnDisk seen may_leave stale (staged (texts_in (seen old)) text) new
@@ -212,7 +212,7 @@ module _ {D : Type 0} (moment : D → ℕ) (left_since : D → ℕ → List ℕ 
         };
       }
 
-  -- and where it is done: the file is whole blocks and a closed gate again
+  -- and once it is done: the file is whole blocks and a closed gate again
   pub is_put : (texts : List (List ℕ)) (text : List ℕ) (old new : D) (gate : ℕ) → AreOneLine texts → IsOneLine text → gate ≡ length (blocks texts) → IsOnDisk seen may_leave stale (staged texts text) old
       → Holds (seen old) gate (43 ∷ []) (seen new) → ((c : List ℕ) → may_leave new c → AgreesBut (λ i. stale old i × IsOutside gate 1 i) (seen new) c)
       → ((i : ℕ) → stale new i → stale old i × IsOutside gate 1 i) → IsAtRest seen may_leave stale new × (texts_in (seen new) ≡ texts ++ text ∷ [])

@@ -1,4 +1,4 @@
--- What is so at one end of a call.
+-- Facts at one end of a call: at `Ok`, or at `Err`.
 use Rattle.std.specs.Prelude.{Result, Ok, Err, OnOk, OnErr}
 
 pub on_err : {T E : Type 0} (r : Result T E) (P : Type 0) → P → OnErr r P

@@ -1,4 +1,4 @@
--- What the calls of a device do to its file, and what a crash may do between two syncs.
+-- The effect of a device's calls on its file, and of a crash between two syncs.
 use Rattle.std.specs.Prelude.{◌<◌, ◌≡◌, ◌≢◌, ◌⊎◌, ℕ, ◌+◌, ◌≤◌, max, min, List, ◌++◌, length, take, drop, Some, Result, IsErrOf}
 use Rattle.std.specs.List.{slice_get}
 use Rattle.amo_journal.specs.declared.device.DeviceError.{DeviceError}
@@ -69,7 +69,7 @@ pub record LeavesOnly {D : Type 0} (moment : D → ℕ) (left_since : D → ℕ 
   -- for a run that began earlier
   pub before : (t : ℕ) (c : List ℕ) → t ≤ moment old → left_since new t c → left_since old t c ⊎ P c
 
--- `Failed` is told only where the disk has failed since
+-- `Failed` is returned only if the disk has failed since
 pub record HasCause {T : Type 0} (before now : ℕ) (result : Result T DeviceError) : Type 0 where
   pub later : before ≤ now
   pub failed : IsErrOf result Failed → before < now

@@ -1,11 +1,12 @@
--- What may be on the disk beside what is read of a journal.
+-- The bytes that may be on the disk instead of those that are read of a journal.
 use Rattle.std.specs.Prelude.{◌≡◌, ◌≢◌, ◌⊎◌, ◌≤◌, ℕ, List, [], ◌∷◌, ◌++◌, length}
 use Rattle.amo_journal.specs.Appends.{IsCutOff, IsLog, checksum_after, lines_from, records_in}
 use Rattle.amo_journal.specs.Device.{Only}
 use Rattle.amo_journal.specs.Texts.{AreOneLine, texts_in, blocks, at_rest}
 use Rattle.amo_journal.specs.declared.journal.Journal.{Journal}
 
--- the file has the blocks of these texts, the gate of the last one closed, and behind them what stands for nothing
+-- the file has the blocks of these texts, with the gate of the last one closed, and then bytes that
+-- count for nothing
 pub record IsShut (texts : List (List ℕ)) (file : List ℕ) : Type 0 where
   pub before : List (List ℕ)
   pub last : List ℕ
@@ -31,11 +32,12 @@ pub record IsLastGate (texts : List (List ℕ)) (i : ℕ) : Type 0 where
   pub texts_are : texts ≡ before ++ last ∷ []
   pub place : i ≡ length (blocks before)
 
--- that place, or one behind the blocks
+-- that place, or one after the blocks
 abbrev pub IsUnsure : List (List ℕ) → ℕ → Type 0
 IsUnsure texts i = IsLastGate texts i ⊎ (length (blocks texts) ≤ i)
 
--- Of these texts the disk has each, but the gate of the last one may be closed there, and no sync need say so.
+-- The disk has each of these texts, but the gate of the last one may be closed there, and no sync
+-- need have failed for it.
 pub record MayRecover {D : Type 0} (seen : D → List ℕ) (may_leave : D → List ℕ → Type 0) (stale : D → ℕ → Type 0) (device : D) : Type 0 where
   pub near : (c : List ℕ) → may_leave device c → IsNear (texts_in (seen device)) c
   pub unsure : (i : ℕ) → stale device i → IsUnsure (texts_in (seen device)) i

@@ -14,7 +14,7 @@ records_of read = map (λ records. records.items) read
 abbrev pub checksums_of : List Checksum → List (List ℕ)
 checksums_of read = map (λ checksum. checksum.digits) read
 
--- the checksums of appends with these records, the first of them behind that checksum
+-- the checksums of appends with these records, the first of them after that checksum
 abbrev pub checksums_from : List ℕ → List (List ℕ) → List (List ℕ)
 checksums_from checksum [] = []
 checksums_from checksum (records ∷ more) = next_checksum checksum records ∷ checksums_from (next_checksum checksum records) more

@@ -1,5 +1,5 @@
--- What a file stands for. A block is an open gate, `+`, then a text, then a line feed. Behind the last block stands a closed gate,
--- `-`.
+-- The texts of a file. A block is an open gate, `+`, then a text, then a line feed. A closed gate,
+-- `-`, follows the last block.
 use Rattle.std.specs.Prelude.{◌≢◌, ℕ, List, [], ◌∷◌, ◌++◌, Option, Some, None, if◌then◌else◌, ◌==◌}
 use Rattle.std.specs.List.{AllByRecursion}
 

@@ -1,4 +1,4 @@
-//! A disk's file as the journal sees it: what a read returns, and what a crash may leave.
+//! The file of a journal: the bytes that a read returns, and those that a crash may leave.
 ghost use Rattle.std.specs.Prelude.{◌≡◌, ◌⊎◌, ◌≤◌, ◌<◌, List, ℕ, length, take, IfOk, OnOk, OnErr};
 ghost use Rattle.amo_journal.specs.declared.device.DeviceError.TheVariants.{Memory};
 ghost use Rattle.amo_journal.specs.Device.{AgreesBut, Cut, Differs, Elapses, Follows, HasCause, Holds, IsOutside, Torn, WritesFront};
@@ -6,7 +6,7 @@ ghost use Rattle.amo_journal.specs.Device.{AgreesBut, Cut, Differs, Elapses, Fol
 use std::alloc::{AllocError, AllocFailed, Global};
 use thiserror::Error;
 
-/// Why a device didn't do what it was asked for.
+/// The reason that a device didn't do a call.
 #[derive(Clone, Copy, Debug, PartialEq, Eq, Drop, Error)]
 pub enum DeviceError {
     /// There was no memory.
@@ -33,30 +33,31 @@ impl<T: Drop> From<AllocFailed<T>> for DeviceError {
     }
 }
 
-/// One file of a disk. A read returns what was written, kept or not. A crash, which is the loss of
-/// power, leaves one of the contents that are possible at its moment. A kill leaves what a read
-/// returns.
+/// `Device`: one file of a disk. A read returns what was written, whether the disk keeps it or not.
+/// A crash, which is the loss of power, leaves one of the contents that are possible at its moment.
+/// A kill leaves what a read returns.
 pub trait Device {
     /// The bytes that a read returns.
     ghost seen: { Self → List ℕ };
 
-    /// What a crash at this moment may leave.
+    /// The contents that a crash at this moment may leave.
     ghost may_leave: { Self → List ℕ → Type 0 };
 
-    /// The places where the disk may have another byte than a read returns, though no sync is going
-    /// to write it: a sync failed, here or in a process before. A write there ends that.
+    /// The places at which the disk may have another byte than a read returns, though no sync is
+    /// going to write it. A sync failed, here or in a process before. A write there ends that.
     ghost stale: { Self → ℕ → Type 0 };
 
     /// The moment, as a number that doesn't fall.
     ghost moment: { Self → ℕ };
 
-    /// What a crash at some moment from that one on might have left, during a call or between two.
+    /// The contents that a crash at some moment from that one on might have left, during a call or
+    /// between two.
     ghost left_since: { Self → ℕ → List ℕ → Type 0 };
 
     /// How often the disk has failed.
     ghost faults: { Self → ℕ };
 
-    /// All the bytes.
+    /// Returns all the bytes.
     fn read(&mut self, alloc: Global) -> Result<Vec<u8>, DeviceError>
         ensures bytes { IfOk result (λ bytes. bytes.items ≡ seen self.old) }
         ensures seen { seen self.new ≡ seen self.old }
@@ -65,9 +66,13 @@ pub trait Device {
         ensures time { Elapses (moment self.old) (moment self.new) (left_since self.old) (left_since self.new) (may_leave self.new) }
         ensures cause { HasCause (faults self.old) (faults self.new) result };
 
-    /// Writes over what is there, and past the end. Until a sync, a crash may leave of each byte in
-    /// the range the old one, the new one, or, past the file's old end on the disk, 0. At an error
-    /// a front of the bytes is written, or none.
+    /// Writes these bytes over the old ones, and past the end. Until a sync, a crash may leave at
+    /// each place in the range the old byte, the new one, or, past the file's old end on the disk,
+    /// 0.
+    ///
+    /// # Errors
+    ///
+    /// The disk failed, or there was no memory. A front of the bytes is written then, or none.
     fn write_at(&mut self, at: usize, bytes: &[u8]) -> Result<(), DeviceError>
         requires { at ≤ length (seen self.old) }
         ensures written { OnOk result (Holds (seen self.old) at bytes.now (seen self.new)) }
@@ -89,8 +94,12 @@ pub trait Device {
         ensures time { Elapses (moment self.old) (moment self.new) (left_since self.old) (left_since self.new) (may_leave self.new) }
         ensures cause { HasCause (faults self.old) (faults self.new) result };
 
-    /// After it, a crash leaves what a read returns, but for stale places. At an error each place
-    /// where the disk may have another byte may be stale from now on.
+    /// Syncs the file: from then on a crash leaves what a read returns, but for stale places.
+    ///
+    /// # Errors
+    ///
+    /// The disk failed, or there was no memory. Each place at which the disk may have another byte
+    /// may be stale from then on.
     fn sync(&mut self) -> Result<(), DeviceError>
         ensures durable { OnOk result ((c : List ℕ) → may_leave self.new c → AgreesBut (stale self.old) (seen self.old) c) }
         ensures seen { seen self.new ≡ seen self.old }

@@ -175,7 +175,7 @@ pub fn read_on(alloc: Global, place: &Place, bytes: &[u8]) -> Result<(Log, Place
     ))
 }
 
-/// Returns the bytes behind this append, if they begin with it.
+/// Returns the bytes after this append, if they begin with it.
 fn behind<'a>(append: &[u8], bytes: &'a [u8]) -> Option<&'a [u8]>
     ensures found { IfSome result (λ rest. bytes.now ≡ append.now ++ rest.now) }
     ensures none { IfNone result ((rest : List ℕ) → bytes.now ≢ append.now ++ rest) }

@@ -1,9 +1,19 @@
-//! A journal on a disk that may lose power at any moment: appends, each of which a checksum chains
-//! to all before it. An append is written after a commit byte that stands closed on the disk. That
-//! byte is opened by a write of its own, once the append is on the disk. So a write that was torn,
-//! whatever it left, leaves the journal with the append or without it. If you open a journal, you
-//! must recover it first, since what is read after a kill may not be on the disk. All else in the
-//! file is damage, and refused. The records mean nothing here. Start with `Journal`.
+//! A journal on a disk that may lose power at any moment: a list of appends, each of which a
+//! checksum chains to all before it.
+//!
+//! Start at [`Journal`]. **If you open a journal, recover it first**, since what is read after a
+//! kill may not be on the disk.
+//!
+//! An append is written after a commit byte that is closed on the disk. A write of its own opens
+//! that byte, once the append is on the disk. So a torn write leaves the journal with the append or
+//! without it. Anything else in the file is damage, and is refused. The records mean nothing here:
+//! `amo_run_log` gives them a meaning.
+//!
+//! | here | in the glossary |
+//! |---|---|
+//! | gate | commit byte |
+//! | block, text | append; the append without its checksum |
+//! | to put | to append |
 #![tactic(auto)]
 
 mod checksum;

@@ -7,20 +7,20 @@ ghost use Rattle.amo_journal.specs.Past.{HadBeen, only_bytes};
 use crate::{Device, DeviceError};
 use std::alloc::{AllocError, Global};
 
-/// A file in memory. Each call is done at once, so a crash leaves what a read returns. It never
-/// fails but for want of memory, and takes memory at each write and cut.
+/// A file in memory. Each call is done at once, so a crash leaves what a read returns. It fails
+/// only for want of memory, and takes memory at each write and cut.
 #[derive(Drop)]
 pub struct MemoryDevice {
     alloc: Global,
     bytes: Vec<u8>,
-    /// What the file held before each change, the oldest first.
+    /// The content of the file before each change, the oldest first.
     past: Vec<Vec<u8>>,
 }
 
 impl MemoryDevice {
     ghost use Rattle.amo_journal.specs.Memory.{memory_bytes};
 
-    /// A file with these bytes, all of them on the disk.
+    /// Returns a file with these bytes, all of them on the disk.
     pub fn new(alloc: Global, bytes: Vec<u8>) -> Self
         ensures { memory_bytes result ≡ bytes.items }
     {
@@ -31,7 +31,7 @@ impl MemoryDevice {
         }
     }
 
-    /// The bytes that the file holds. It takes no memory and leaves all as it is.
+    /// Returns the bytes that the file holds. It takes no memory and leaves all as it is.
     pub fn bytes(&self) -> &[u8]
         ensures { result.now ≡ memory_bytes self.now }
     {
@@ -56,7 +56,7 @@ fn replace(
     Ok(())
 }
 
-/// The bytes with others written over them.
+/// Returns the bytes with others written over them.
 fn written_over(alloc: Global, bytes: &[u8], at: usize, new: &[u8]) -> Result<Vec<u8>, AllocError>
     requires { at ≤ length bytes.now }
     ensures { IfOk result (λ v. Holds bytes.now at new.now v.items) }

@@ -7,6 +7,10 @@ use std::alloc::{AllocError, Global};
 
 /// Returns the lines of a journal without checksums, as version 0.1.0 wrote it, up to the first
 /// commit byte that isn't open. A journal in this form is read and never written.
+///
+/// # Errors
+///
+/// `AllocError` if there was no memory.
 pub fn texts_in(alloc: Global, bytes: &[u8]) -> Result<Vec<Vec<u8>>, AllocError>
     ensures exact { IfOk result (λ texts. records_of texts.items ≡ texts_in bytes.now) }
 {
@@ -19,7 +23,7 @@ pub fn texts_in(alloc: Global, bytes: &[u8]) -> Result<Vec<Vec<u8>>, AllocError>
     Ok(texts)
 }
 
-/// The text of the block at the front, if there is one, and what stands behind the block.
+/// Returns the text of the block at the front, if there is one, and the bytes after the block.
 pub(crate) fn first_block(bytes: &[u8]) -> Option<(&[u8], &[u8])>
     ensures found { IfSome result (λ x. bytes.now ≡ 43 ∷ x.0.now ++ 10 ∷ x.1.now) }
     ensures one_line { IfSome result (λ x. IsOneLine x.0.now) }
@@ -32,7 +36,7 @@ pub(crate) fn first_block(bytes: &[u8]) -> Option<(&[u8], &[u8])>
     first_line(after)
 }
 
-/// The bytes before the first line feed, and those behind it.
+/// Returns the bytes before the first line feed, and those after it.
 pub(crate) fn first_line(bytes: &[u8]) -> Option<(&[u8], &[u8])>
     ensures found { IfSome result (λ x. bytes.now ≡ x.0.now ++ 10 ∷ x.1.now) }
     ensures one_line { IfSome result (λ x. IsOneLine x.0.now) }

@@ -1,4 +1,4 @@
-//! The steps of a journal on its device: what is written or cut is synced at once.
+//! The steps of a journal on its device. Each write or cut is synced at once.
 ghost use Rattle.std.specs.Prelude.{◌≡◌, ◌≢◌, ◌⊎◌, ◌+◌, ◌<◌, ◌≤◌, ◌^◌, ◌++◌, [], ◌∷◌, List, ℕ, length, map, take, IfOk, IfErr, IfSome, IfNone, OnOk, OnErr, IsErrOf};
 ghost use Rattle.std.specs.List.{slice_get};
 ghost use Rattle.amo_journal.specs.Appends.{longest, IsLog};
@@ -83,7 +83,8 @@ pub(crate) fn append_line<D: Device>(
     write_and_sync(device, gate, b"+")
 }
 
-/// Returns what is written after a closed gate: the line, its line feed, and the next closed gate.
+/// Returns the bytes that are written after a closed gate: the line, its line feed, and the next
+/// closed gate.
 pub(crate) fn behind_gate(alloc: Global, line: &[u8]) -> Result<Vec<u8>, DeviceError>
     ensures bytes { IfOk result (λ bytes. bytes.items ≡ line.now ++ 10 ∷ 45 ∷ []) }
     ensures memory { IsErrOf result DeviceError.Failed → ⊥ }
@@ -128,9 +129,9 @@ fn kept_len(end: usize, len: usize) -> usize
     if end < len { end + 1 } else { len }
 }
 
-/// Cuts what stands behind the blocks, and closes the gate behind them. The cut has to be on the
-/// disk first: behind a gate that is torn open, what was there would count. A byte in the place of
-/// that gate stays until it is written over, so that the file is never left without one.
+/// Cuts the bytes after the blocks, and closes the gate there. The cut must be on the disk first:
+/// if the gate were torn open, those bytes would count. A byte in the place of that gate stays
+/// until it is written over, so that the file is never left without one.
 pub(crate) fn close_end<D: Device>(
     device: &mut D,
     end: usize,

@@ -1,4 +1,4 @@
--- What the answers begin with.
+-- The first words of the verdicts.
 use Rattle.std.proofs.Common.{◌≡◌, ◌⊎◌, inl, inr, ℕ, zero, suc, ◌+◌, ◌-◌, ◌<◌, ◌≤◌, Bool, true, false, ◌↔◌, List, [], ◌∷◌, ◌++◌, length, take, drop, get_or, Result, Ok, Err, refl, sym, ap, ◌∙◌, arith, append_assoc}
 use Rattle.std.specs.Prelude.{◌==◌, nat_lt, if◌then◌else◌, codes}
 use Rattle.std.specs.Fmt.{decimal}
@@ -21,7 +21,7 @@ use Rattle.amo_judge.specs.Verdicts.{BeginsWith, Tells, IsLawfulText, IsUnlawful
 use Rattle.amo_judge.specs.Why.{why}
 use Rattle.amo_judge.specs.declared.refusal.Refusal.{Refusal}
 
--- the first event that is no step is the one behind a run
+-- the first event that is no step is the one after a run
 
 one_later : (b : Bool) (n k : ℕ) → b ≡ true → n ≡ suc k → (if b then (if n == 0 then 0 else suc n) else 1) ≡ suc (suc k)
 one_later b n k e f = grind (arith, nat_tests)
@@ -44,7 +44,7 @@ of_run g es run = ap verdict_at (run_first_bad g (first_object g) es run)
 of_bad : (g : Givens) (es : List Event) (k : ℕ) → first_bad g (first_object g) es ≡ suc k → verdict g es ≡ FirstBad (suc k)
 of_bad g es k is = let n = first_bad g (first_object g) es in ap (λ (b : Bool). if b then Lawful else FirstBad n) (not_first n k is) ∙ ap FirstBad is
 
--- the first byte tells which answer it is
+-- the first byte shows which verdict it is
 
 abbrev first_byte : List ℕ → ℕ
 first_byte text = get_or text 0 0
@@ -145,7 +145,7 @@ unlawful_answer text number t =
 at_most : (n m : ℕ) → nat_lt m n ≡ false → n ≤ m
 at_most n m e = grind (arith, nat_tests)
 
--- a text tells a history, or is refused
+-- a text is a history, or is refused
 told_or_refused : (text : List ℕ) → ((h : HistoryView) × Tells text h) ⊎ BeginsWith (codes "refused\n") (judgement text)
 told_or_refused text = go (nat_lt MOST_BYTES (length text)) refl (history_in (lines_of text)) refl
   where

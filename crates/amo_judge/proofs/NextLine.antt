@@ -17,11 +17,11 @@ many_in other (Err w) = other
 abbrev or_history : HistoryView → Option Wrong → Result HistoryView Wrong
 or_history new o = found_or o (λ w. Err w) (Ok new)
 
--- where nothing is wrong with a line, it is taken
+-- a line without a fault is taken
 pub is_taken : (h new : HistoryView) (o : Option Wrong) (line : List ℕ) → o ≡ None → with_line h line ≡ or_history new o → with_line h line ≡ Ok new
 is_taken h new o line none e = e ∙ ap (or_history new) none
 
--- and tells one event
+-- and has one event
 pub one_event : (h new : HistoryView) (line : List ℕ) → with_line h line ≡ Ok new → length new.events ≡ length h.events + 1
 one_event h new line e = sym (ap (many_in (length h.events + 1)) e) ∙ go (event_in h (words_of line))
   where

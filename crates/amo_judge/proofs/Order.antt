@@ -1,4 +1,4 @@
--- No reason that comes before the one that is told holds.
+-- No reason that comes before the one in the verdict holds.
 use Rattle.std.proofs.Common.{◌≡◌, ℕ, Bool, true, false, ◌&&◌, not, List, length, Option, Some, None, IfSome, ap, subst, ◌∙◌}
 use Rattle.std.specs.Prelude.{option_map, ⊤}
 use Rattle.std.specs.Option.{is_some, option_or}
@@ -18,7 +18,7 @@ use Rattle.amo_judge.specs.declared.reasons.Reason.TheVariants.{NoWorker, Gone, 
 use Rattle.amo_judge.proofs.Found.{within_worker, gone_found, hand_free}
 use Rattle.amo_judge.proofs.Told.{either}
 
--- what is so where each reason is told, since those that come before it don't hold
+-- the facts that hold with each reason, since the reasons before it don't hold
 abbrev pub Passed : Givens → List Event → Event → Reason → Type 0
 Passed g before event (NoWorker p) = ⊤
 Passed g before event (Gone p end i) = IsWorker g p

@@ -1,4 +1,4 @@
--- What a reason says is so.
+-- The facts that a reason names hold.
 use Rattle.std.proofs.Common.{◌≡◌, ◌≢◌, ◌⊎◌, inl, inr, ℕ, zero, suc, ◌+◌, ◌-◌, ◌<◌, ◌≤◌, Bool, true, false, ◌&&◌, List, [], ◌∷◌, length, slice_get, Option, Some, None, IfSome, refl, sym, ap, subst, ◌∙◌, arith}
 use Rattle.std.specs.Prelude.{nat_le, ◌==◌, if◌then◌else◌, option_map}
 use Rattle.std.specs.Option.{is_some, option_or}
@@ -267,7 +267,7 @@ told g before event =
 pub said : (g : Givens) (before : List Event) (event : Event) (reason : Reason) → reason_of g before (worker_of event) event ≡ Some reason → Says g before event reason
 said g before event reason is = subst (λ (o : Option Reason). IfSome o (Says g before event)) is (told g before event)
 
--- and it is what is told
+-- and it is the one in the verdict
 
 some_reason : (o : Option Reason) → is_some o ≡ true → (reason : Reason) × (o ≡ Some reason)
 some_reason None is = absurd (true≢false (sym is))

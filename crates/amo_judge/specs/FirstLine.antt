@@ -1,4 +1,4 @@
--- What the first line of a history says.
+-- The first line of a history: its givens, and whether there are names.
 use Rattle.std.specs.Prelude.{ℕ, Bool, true, false, ◌&&◌, nat_le, ◌==◌, if◌then◌else◌, List, codes, length, drop, Result, Ok, Err}
 use Rattle.std.specs.Option.{is_some, ok_or}
 use Rattle.amo_givens.specs.Givens.{givens_of, bound}
@@ -11,7 +11,7 @@ use Rattle.amo_judge.specs.declared.first_line.Opening.{Opening}
 use Rattle.amo_judge.specs.declared.refusal.Wrong.{Wrong}
 use Rattle.amo_judge.specs.declared.refusal.Wrong.TheVariants.{NoFirstLine, NoGivens, OtherBound}
 
--- givens, or that their numbers are none
+-- the givens, or the error that these numbers are outside their limits
 abbrev pub or_no_givens : Result Givens GivensFault → Result Givens Wrong
 or_no_givens (Ok givens) = Ok givens
 or_no_givens (Err fault) = Err (NoGivens fault)
@@ -29,7 +29,8 @@ numbers_of jobs workers beta =
 abbrev pub with_bound : Givens → ℕ → Result Bool Wrong
 with_bound g said = if said == bound g then Ok false else Err (OtherBound (bound g))
 
--- what stands behind the threshold: nothing, `names`, or `bound` and the bound of the givens; whether there are names
+-- whether there are names, by the words after the threshold: nothing, `names`, or `bound` and the
+-- bound of the givens
 abbrev pub ending_of : Givens → List (List ℕ) → Result Bool Wrong
 ending_of g words =
     if length words == 0 then Ok false
@@ -41,7 +42,7 @@ ending_of g words =
 abbrev pub has_givens : List ℕ → List (List ℕ) → Bool
 has_givens label words = nat_le 6 (length words) && (says_at words 0 label && (says_at words 2 (codes "workers") && says_at words 4 (codes "beta")))
 
--- what such a line says
+-- the opening that such a line says
 abbrev pub opening_of : List ℕ → List (List ℕ) → Result Opening Wrong
 opening_of label words =
     if has_givens label words
@@ -53,10 +54,11 @@ unfoldable pub has_blocks : List (List ℕ) → Bool
 has_blocks words =
     (length words == 12) && (says_at words 0 (codes "jobs") && (is_some (number_in (word_at words 1)) && (says_at words 2 (codes "block") && is_some (number_in (word_at words 3)))))
 
--- what the first line of a report over blocks says
+-- the opening that the first line of a report over blocks says
 abbrev pub opening_of_blocks : List (List ℕ) → Result Opening Wrong
 opening_of_blocks words = opening_of (codes "blocks") (drop 4 words)
 
--- what a first line of these words says; where it tells of blocks, they are the jobs
+-- the opening that a first line of these words says; in a report over blocks, the blocks are the
+-- jobs
 abbrev pub opening_in : List (List ℕ) → Result Opening Wrong
 opening_in words = if has_blocks words then opening_of_blocks words else opening_of (codes "jobs") words

@@ -1,4 +1,4 @@
--- Which events a history tells, line by line.
+-- The events of a history, read line by line.
 use Rattle.std.specs.Prelude.{ℕ, ◌+◌, Bool, ◌&&◌, ◌==◌, if◌then◌else◌, List, [], ◌∷◌, ◌++◌, codes, length, take, Result, Ok, Err}
 use Rattle.std.specs.Option.{ok_or}
 use Rattle.amo_kk.specs.declared.event.Event.{Event}
@@ -14,7 +14,7 @@ use Rattle.amo_judge.specs.declared.refusal.Refusal.{Refusal}
 use Rattle.amo_judge.specs.declared.refusal.Wrong.{Wrong}
 use Rattle.amo_judge.specs.declared.refusal.Wrong.TheVariants.{NoFirstLine, NoEvent, NotDue, WorkerBeyond, JobBeyond}
 
--- the givens, what workers and jobs are called, and the events
+-- the givens, the names of workers and jobs, and the events
 pub record HistoryView : Type 0 where
   pub givens : Givens
   pub workers : RollView
@@ -53,7 +53,7 @@ pair_due h words = next (worker_due h words) (λ p. next (job_in h (word_at word
 abbrev pub has_word : ℕ → List ℕ → List (List ℕ) → Bool
 has_word count word words = (length words == count) && says_at words 1 word
 
--- the event that a line of these words tells
+-- the event of a line of these words
 abbrev pub event_in : HistoryView → List (List ℕ) → Result Event Wrong
 event_in h words =
     if has_word 4 (codes "claimed") words then next (pair_due h words) (λ w. Ok (Claimed w.0 w.1))
@@ -67,7 +67,7 @@ event_in h words =
 abbrev pub jobs_after : RollView → List (List ℕ) → RollView
 jobs_after jobs words = if length words == 4 then with_word jobs (word_at words 3) else jobs
 
--- the history with an event more, told by these words
+-- the history with one event more, which these words name
 abbrev pub with_event : HistoryView → List (List ℕ) → Event → HistoryView
 with_event h words event =
     record { givens = h.givens; workers = with_word h.workers (word_at words 2); jobs = jobs_after h.jobs words; events = h.events ++ event ∷ [] }
@@ -80,7 +80,7 @@ with_words h words = next (event_in h words) (λ event. Ok (with_event h words e
 abbrev pub with_line : HistoryView → List ℕ → Result HistoryView Wrong
 with_line h line = with_words h (words_of line)
 
--- what is wrong with a line, with its number
+-- the fault of a line, with the line's number
 abbrev pub on_line : {A : Type 0} → ℕ → Result A Wrong → Result A Refusal
 on_line number (Ok x) = Ok x
 on_line number (Err wrong) = Err (record { line = number; wrong = wrong })
@@ -90,11 +90,11 @@ abbrev pub with_lines : HistoryView → List (List ℕ) → Result HistoryView R
 with_lines h [] = Ok h
 with_lines h (line ∷ lines) = next (on_line (length h.events + 2) (with_line h line)) (λ more. with_lines more lines)
 
--- the history of the lines behind the first, up to the one that ends it
+-- the history of the lines after the first, up to the one that ends it
 abbrev pub lines_behind : Opening → List (List ℕ) → Result HistoryView Refusal
 lines_behind opening lines = with_lines (first_history opening) (take (told lines) lines)
 
--- the history that lines tell, up to the first that ends it
+-- the history of these lines, up to the first that ends it
 abbrev pub history_in : List (List ℕ) → Result HistoryView Refusal
 history_in [] = Err (record { line = 1; wrong = NoFirstLine })
 history_in (first ∷ lines) = next (on_line 1 (opening_in (words_of first))) (λ opening. lines_behind opening lines)

@@ -1,4 +1,4 @@
--- What is answered.
+-- The verdict on a text, in words.
 use Rattle.std.specs.Prelude.{ℕ, ◌+◌, ◌-◌, nat_lt, if◌then◌else◌, List, [], ◌∷◌, ◌++◌, codes, length, take, drop, Result, Ok, Err}
 use Rattle.std.specs.Fmt.{decimal}
 use Rattle.amo_kk.specs.declared.event.Event.{Event}
@@ -16,7 +16,7 @@ use Rattle.amo_judge.specs.declared.refusal.Refusal.{Refusal}
 use Rattle.amo_judge.specs.declared.refusal.Wrong.{Wrong}
 use Rattle.amo_judge.specs.declared.refusal.Wrong.TheVariants.{NoFirstLine, NoGivens, OtherBound, NoEvent, NotDue, WorkerBeyond, JobBeyond}
 
--- what is wrong with a line
+-- the fault of a line, in words
 unfoldable pub wrong_text : Wrong → List ℕ
 wrong_text NoFirstLine = codes "this is no first line of a history"
 wrong_text (NoGivens TooManyJobs) = codes "there are more than " ++ (decimal MAX_JOBS ++ codes " jobs")
@@ -35,7 +35,7 @@ unfoldable pub refused_line : ℕ → List ℕ → List ℕ
 refused_line line words =
     codes "refused\nline " ++ (decimal line ++ (codes ": " ++ (words ++ codes "\n")))
 
--- the answer to what is no history
+-- the verdict on a text that isn't a history
 abbrev pub refused_text : Refusal → List ℕ
 refused_text refusal = refused_line refusal.line (wrong_text refusal.wrong)
 
@@ -48,25 +48,25 @@ unfoldable pub unlawful_lines : ℕ → List ℕ → List ℕ → List ℕ
 unlawful_lines number event reason =
     codes "unlawful " ++ (decimal number ++ (codes "\nline " ++ (decimal (number + 1) ++ (codes ": " ++ (event ++ (codes "\n" ++ (reason ++ codes "\n")))))))
 
--- the answer where an event of this number is no step behind those before it
+-- the verdict if an event of this number is no step after those before it
 abbrev pub unlawful_text : HistoryView → ℕ → List Event → Event → List ℕ
 unlawful_text h number before event = unlawful_lines number (event_text h number event) (why h before event)
 
--- the same of the first of these events, if there is one, and those before it
+-- the verdict for the first of these events, if there is one, after the events before it
 abbrev pub bad_text : HistoryView → ℕ → List Event → List Event → List ℕ
 bad_text h number before [] = []
 bad_text h number before (event ∷ events) = unlawful_text h number before event
 
--- what is answered on a history by its verdict
+-- the text for a history by its verdict
 abbrev pub verdict_text : HistoryView → Verdict → List ℕ
 verdict_text h Lawful = lawful_text h.events
 verdict_text h (FirstBad number) = bad_text h number (take (number - 1) h.events) (drop (number - 1) h.events)
 
--- what is answered on what was read
+-- the text for a history that was read, or refused
 abbrev pub answer : Result HistoryView Refusal → List ℕ
 answer (Ok h) = verdict_text h (verdict h.givens h.events)
 answer (Err refusal) = refused_text refusal
 
--- what is answered on a text
+-- the verdict on a text
 abbrev pub judgement : List ℕ → List ℕ
 judgement text = if nat_lt MOST_BYTES (length text) then too_long_text else answer (history_in (lines_of text))

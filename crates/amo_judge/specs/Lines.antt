@@ -11,7 +11,7 @@ without_last_feed text = if slice_index text (length text - 1) == 10 then take (
 abbrev pub split_lines : List ℕ → List (List ℕ)
 split_lines text = slice_split (λ b. b == 10) text
 
--- the lines of a text: a line feed stands between each two, and one may stand behind the last
+-- the lines of a text: a line feed stands between each two, and one may end the last
 abbrev pub lines_of : List ℕ → List (List ℕ)
 lines_of text = split_lines (without_last_feed text)
 
@@ -27,7 +27,7 @@ word_at words place = slice_index_or words place []
 abbrev pub says_at : List (List ℕ) → ℕ → List ℕ → Bool
 says_at words place text = bytes_eq (word_at words place) text
 
--- a line that tells of a worker ends the history, as it does in the report of a replay
+-- a line on a worker ends the history, as in the report of a replay
 abbrev pub ends_history : List ℕ → Bool
 ends_history line = bytes_eq (codes "worker ") (take 7 line)
 

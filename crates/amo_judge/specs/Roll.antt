@@ -1,4 +1,4 @@
--- What workers or jobs are called.
+-- The names of workers or jobs.
 use Rattle.std.specs.Prelude.{ℕ, ◌+◌, ◌-◌, ◌^◌, Bool, ◌||◌, nat_lt, ◌==◌, if◌then◌else◌, List, [], ◌∷◌, ◌++◌, length, slice_index_or, Option, Some, None, option_and_then, Result, Ok, Err}
 use Rattle.std.specs.Fmt.{decimal}
 use Rattle.std.specs.List.{position_or_len}
@@ -31,16 +31,17 @@ text_in bytes = if is_utf8 bytes then Some bytes else None
 abbrev pub name_in : List ℕ → Option (List ℕ)
 name_in word = if (length word == 0) || nat_lt LONGEST_NAME (length word) then None else text_in word
 
--- the place of the name among these, or behind them
+-- the place of the name among these, or their number if it isn't there
 abbrev pub place_in : List ℕ → List (List ℕ) → ℕ
 place_in name words = position_or_len (λ word. bytes_eq name word) words
 
--- a place as a number from 1, where there are so many at most
+-- a place as a number from 1, if there are at most so many
 abbrev pub number_at : ℕ → Wrong → ℕ → Result ℕ Wrong
 number_at most beyond place = if nat_lt place most then Ok (place + 1) else Err beyond
 
--- the number for which a word stands: where there are no names, the one that it says; else its place, from 1, among the names that
--- came so far, or the next one, where there are so many at most
+-- the number for which a word stands. Without names it is the one that the word says. With names it
+-- is the name's place, from 1, among the names that came so far, or the next one, if there are at
+-- most so many
 abbrev pub number_on : RollView → ℕ → Wrong → List ℕ → Result ℕ Wrong
 number_on roll most beyond word =
     if roll.named
@@ -56,6 +57,6 @@ with_name roll name =
 abbrev pub with_word : RollView → List ℕ → RollView
 with_word roll word = if roll.named then found_or (name_in word) (λ name. with_name roll name) roll else roll
 
--- what the one of this number is called
+-- the name of the worker or job of this number
 abbrev pub called : RollView → ℕ → List ℕ
 called roll number = if roll.named then slice_index_or roll.words (number - 1) [] else decimal number

@@ -1,4 +1,4 @@
--- How events are told.
+-- Events in words.
 use Rattle.std.specs.Prelude.{ℕ, List, ◌++◌, codes, length, count_by}
 use Rattle.std.specs.Fmt.{decimal}
 use Rattle.std.specs.Str.{bytes_eq}
@@ -53,7 +53,7 @@ worked_text events claimed done = codes "lawful\nevents " ++ (decimal events ++ 
 unfoldable pub went_text : (ended halted left : ℕ) → List ℕ
 went_text ended halted left = codes " ended " ++ (decimal ended ++ (codes " halted " ++ (decimal halted ++ (codes " left " ++ (decimal left ++ codes "\n")))))
 
--- the answer to a run: how many events there are, and of each kind
+-- the verdict on a run: how many events there are, and of each kind
 abbrev pub lawful_text : List Event → List ℕ
 lawful_text events =
     worked_text (length events) (count_for (codes "claimed") events) (count_for (codes "done") events)

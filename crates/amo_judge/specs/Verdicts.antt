@@ -15,13 +15,13 @@ pub record Tells (text : List ℕ) (h : HistoryView) : Type 0 where
   pub short : length text ≤ MOST_BYTES
   pub told : history_in (lines_of text) ≡ Ok h
 
--- the text tells a history whose events are a run
+-- the text is a history whose events are a run
 pub record IsLawfulText (text : List ℕ) : Type 0 where
   pub history : HistoryView
   pub told : Tells text history
   pub run : IsRun history.givens (first_object history.givens) history.events
 
--- the text tells a history in which the event of this number is the first that is no step
+-- the text is a history in which the event of this number is the first that is no step
 pub record IsUnlawfulText (text : List ℕ) (number : ℕ) : Type 0 where
   pub history : HistoryView
   pub told : Tells text history

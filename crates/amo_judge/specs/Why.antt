@@ -27,13 +27,13 @@ abbrev pub is_claim_of : ℕ → Event → Bool
 is_claim_of j (Claimed q i) = i == j
 is_claim_of j event = false
 
--- the first event that passes the test, and its number, where the first event has this number
+-- the first event that passes the test, and its number, if the first event has this number
 abbrev pub first_from : (Event → Bool) → ℕ → List Event → Option (ℕ × Event)
 first_from test number [] = None
 first_from test number (e ∷ es) = if test e then Some (number, e) else first_from test (number + 1) es
 
--- the job that worker p has in its hand after these events, and the number of the event that gave it that, where the first has this
--- number and this was in its hand before
+-- the job in the hand of worker p after these events, and the number of the event that gave it. The
+-- first event has this number, and this was in its hand before
 abbrev pub hand_from : ℕ → Option (ℕ × ℕ) → ℕ → List Event → Option (ℕ × ℕ)
 hand_from p hand number [] = hand
 hand_from p hand number (Claimed q j ∷ es) = hand_from p (if q == p then Some (j, number) else hand) (number + 1) es
@@ -59,7 +59,7 @@ abbrev pub hand_job : Option (ℕ × ℕ) → ℕ
 hand_job None = 0
 hand_job (Some found) = found.0
 
--- what became of a worker by the event
+-- the way in which the event ended a worker's steps
 abbrev pub gone_words : Event → List ℕ
 gone_words (Ended q) = codes "had ended"
 gone_words (Halted q) = codes "was halted"
@@ -78,8 +78,8 @@ hand_reason p before = option_map (λ found. InHand p found.0 found.1) (hand_of 
 abbrev pub claim_reason : ℕ → List Event → Option Reason
 claim_reason j before = option_map (λ found. ClaimedBefore j (worker_of found.1) found.0) (claim_of j before)
 
--- why the event is no step, if its worker is there: the first of the tests of a step that fails; of the last test, where there is one,
--- it is known that it fails
+-- the reason that the event is no step, if its worker exists: the first test of a step that fails.
+-- The last test, if it is reached, is known to fail
 abbrev pub reason_here : Givens → List Event → Event → Option Reason
 reason_here g before (Claimed p j) = if is_within g.jobs j then option_or (hand_reason p before) (claim_reason j before) else Some (NoJob j)
 reason_here g before (Done p j) = if is_within g.jobs j then Some (NotInHand p j) else Some (NoJob j)
@@ -87,7 +87,7 @@ reason_here g before (Ended p) = option_or (hand_reason p before) (Some (Early (
 reason_here g before (Halted p) = None
 reason_here g before (Left p) = hand_reason p before
 
--- why the event, of worker p, is no step behind these
+-- the reason that the event, of worker p, is no step after these
 abbrev pub reason_of : Givens → List Event → ℕ → Event → Option Reason
 reason_of g before p event = if is_within g.workers p then option_or (gone_reason p before) (reason_here g before event) else Some (NoWorker p)
 
@@ -106,7 +106,7 @@ unfoldable pub early_text : ℕ → ℕ → List ℕ
 early_text performed least =
     decimal performed ++ (codes " jobs are performed, and a worker may end by its own choice from " ++ (decimal least ++ codes " on"))
 
--- the reason in words, where workers and jobs are called as in this history
+-- the reason in words, with the names of this history
 unfoldable pub reason_text : HistoryView → Reason → List ℕ
 reason_text h (NoWorker p) = codes "there is no worker " ++ called h.workers p
 reason_text h (Gone p event number) =
@@ -118,10 +118,10 @@ reason_text h (NotInHand p j) = not_in_hand_text (called h.workers p) (called h.
 reason_text h (ClaimedBefore j p number) = claimed_text (called h.jobs j) (called h.workers p) number
 reason_text h (Early performed least) = early_text performed least
 
--- why the event, of worker p, is no step behind these, in words
+-- the reason that the event, of worker p, is no step after these, in words
 abbrev pub why_of : HistoryView → List Event → ℕ → Event → List ℕ
 why_of h before p event = found_or (reason_of h.givens before p event) (λ reason. reason_text h reason) []
 
--- the same of an event whose worker it tells
+-- the reason that the event is no step after these, in words; the event names its worker
 abbrev pub why : HistoryView → List Event → Event → List ℕ
 why h before event = why_of h before (worker_of event) event

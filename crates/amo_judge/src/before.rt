@@ -1,4 +1,4 @@
-//! What a list of events says of a worker and of a job.
+//! Searches in a list of events: for a worker, and for a job.
 ghost use Rattle.std.specs.Prelude.{◌≡◌, length};
 ghost use Rattle.amo_kk.specs.Run.{done_jobs};
 ghost use Rattle.amo_judge.specs.Why.{is_end_of, is_claim_of, end_of, claim_of, hand_of};
@@ -25,7 +25,7 @@ fn is_claim_of(j: u32, event: Event) -> bool
     }
 }
 
-/// The event by which worker p is gone, and its number.
+/// Returns the event by which worker p is gone, and its number from 1.
 pub(crate) fn end_of(p: u32, events: &[Event]) -> Option<(usize, Event)>
     ensures { result ≡ end_of p events.now }
 {
@@ -37,7 +37,7 @@ pub(crate) fn end_of(p: u32, events: &[Event]) -> Option<(usize, Event)>
     None
 }
 
-/// The event by which job j is claimed, and its number.
+/// Returns the event by which job j is claimed, and its number from 1.
 pub(crate) fn claim_of(j: u32, events: &[Event]) -> Option<(usize, Event)>
     ensures { result ≡ claim_of j events.now }
 {
@@ -49,7 +49,8 @@ pub(crate) fn claim_of(j: u32, events: &[Event]) -> Option<(usize, Event)>
     None
 }
 
-/// The job that worker p has in its hand, and the number of the event since which it is there.
+/// Returns the job that worker p has in its hand, and the number of the event since which it is
+/// there.
 pub(crate) fn hand_of(p: u32, events: &[Event]) -> Option<(u32, usize)>
     ensures { result ≡ hand_of p events.now }
 {
@@ -64,7 +65,7 @@ pub(crate) fn hand_of(p: u32, events: &[Event]) -> Option<(u32, usize)>
     hand
 }
 
-/// How many jobs are performed.
+/// Returns the number of jobs that the events perform.
 pub(crate) fn performed(events: &[Event]) -> usize
     ensures { result ≡ length (done_jobs events.now) }
 {

@@ -9,15 +9,15 @@ use crate::refusal::Wrong;
 use amo_decimal::number_of_bytes;
 use amo_givens::Givens;
 
-/// What a first line says.
+/// The content of a first line.
 #[derive(Clone, Copy, Debug, PartialEq, Eq)]
 pub(crate) struct Opening {
     pub(crate) givens: Givens,
-    /// Whether workers and jobs are named, and not numbered.
+    /// True if workers and jobs have names, and not numbers.
     pub(crate) named: bool,
 }
 
-/// The givens of these three words, each of them a number.
+/// Returns the givens of these three words, each of them a number.
 fn numbers_of(jobs: &[u8], workers: &[u8], beta: &[u8]) -> Result<Givens, Wrong>
     ensures { result ≡ numbers_of jobs.now workers.now beta.now }
 {
@@ -40,7 +40,7 @@ fn with_bound(givens: Givens, said: u64) -> Result<bool, Wrong>
     Ok(false)
 }
 
-/// Returns true if there are names, by what stands behind the threshold.
+/// Returns true if there are names, by the words after the threshold.
 fn ending_of(givens: Givens, words: &[&[u8]]) -> Result<bool, Wrong>
     ensures { result ≡ ending_of givens (map (λ word. word.now) words.now) }
 {
@@ -95,7 +95,7 @@ fn has_blocks(words: &[&[u8]]) -> bool
         && is_number(words[3])
 }
 
-/// What a first line of a report over blocks says.
+/// Returns the opening that the first line of a report over blocks says.
 fn opening_of_blocks(words: &[&[u8]]) -> Result<Opening, Wrong>
     requires { length words.now ≡ 12 }
     ensures { result ≡ opening_of_blocks (map (λ word. word.now) words.now) }
@@ -103,7 +103,7 @@ fn opening_of_blocks(words: &[&[u8]]) -> Result<Opening, Wrong>
     opening_of(b"blocks", &words[4..])
 }
 
-/// What a first line of these words says.
+/// Returns the opening that a first line of these words says.
 pub(crate) fn opening_in(words: &[&[u8]]) -> Result<Opening, Wrong>
     ensures { result ≡ opening_in (map (λ word. word.now) words.now) }
 {

@@ -1,4 +1,4 @@
-//! A history as it is read: its givens, what workers and jobs are called, and its events.
+//! A history while it is read: its givens, the names of workers and jobs, and its events.
 ghost use Rattle.std.specs.Prelude.{◌≡◌, ◌≤◌, Ok, Err, IfOk, OnOk, length, map};
 ghost use Rattle.amo_judge.specs.Results.{found_or};
 ghost use Rattle.amo_judge.specs.History.{first_history, due_in, worker_in, job_in, worker_due, pair_due, has_word, event_in, with_event, with_line};
@@ -30,7 +30,7 @@ impl<'a> Model for History<'a> {
     ghost view = { λ h. record { givens = h.givens; workers = h.workers; jobs = h.jobs; events = h.events.items } };
 }
 
-/// Returns true if this is the number of the event that is due.
+/// Returns the number of the event that is due, if the word says it.
 fn due_in(due: usize, word: &[u8]) -> Result<u64, Wrong>
     ensures { result ≡ due_in due word.now }
 {
@@ -50,7 +50,7 @@ fn has_word(words: &[&[u8]], count: usize, word: &[u8]) -> bool
 }
 
 impl<'a> History<'a> {
-    /// A history without events.
+    /// Returns a history without events.
     pub(crate) fn new(alloc: Global, opening: Opening) -> History<'a>
         ensures { result ≡ first_history opening }
     {
@@ -76,7 +76,7 @@ impl<'a> History<'a> {
         let jobs = self.givens.jobs;
         self.jobs.number_on(jobs, Wrong::JobBeyond(jobs), word)
     }
-    /// The worker of an event, whose number is due.
+    /// Returns the worker of an event whose number is due.
     fn worker_due(&self, words: &[&[u8]]) -> Result<u32, Wrong>
         requires { 3 ≤ length words.now }
         ensures { result ≡ worker_due self.now (map (λ word. word.now) words.now) }
@@ -85,7 +85,7 @@ impl<'a> History<'a> {
         self.worker_in(words[2])
     }
 
-    /// The worker and the job of an event, whose number is due.
+    /// Returns the worker and the job of an event whose number is due.
     fn pair_due(&self, words: &[&[u8]]) -> Result<(u32, u32), Wrong>
         requires { 4 ≤ length words.now }
         ensures { result ≡ pair_due self.now (map (λ word. word.now) words.now) }
@@ -95,7 +95,7 @@ impl<'a> History<'a> {
         Ok((worker, job))
     }
 
-    /// The event that a line of these words tells.
+    /// Returns the event of a line of these words.
     fn event_in(&self, words: &[&[u8]]) -> Result<Event, Wrong>
         ensures { result ≡ event_in self.now (map (λ word. word.now) words.now) }
     {
@@ -119,7 +119,7 @@ impl<'a> History<'a> {
         Err(Wrong::NoEvent)
     }
 
-    /// Notes the event that a line of these words told.
+    /// Notes the event of a line of these words.
     fn note(&mut self, words: &[&'a [u8]], event: Event) -> Result<(), AllocError>
         requires { 3 ≤ length words.now }
         ensures { OnOk result (self.new ≡ with_event self.old (map (λ word. word.now) words.now) event) }
@@ -132,7 +132,7 @@ impl<'a> History<'a> {
         Ok(())
     }
 
-    /// Adds the event that a line tells, or says what is wrong with it.
+    /// Adds the event of a line, or returns what is wrong with the line.
     pub(crate) fn add(&mut self, alloc: Global, line: &'a [u8]) -> Result<Option<Wrong>, AllocError>
         ensures { IfOk result (λ wrong. with_line self.old line.now ≡ found_or wrong (λ w. Err w) (Ok self.new)) }
     {
@@ -146,28 +146,28 @@ impl<'a> History<'a> {
         }
     }
 
-    /// The givens.
+    /// Returns the givens.
     pub(crate) fn givens(&self) -> Givens
         ensures { result ≡ self.now.givens }
     {
         self.givens
     }
 
-    /// The events.
+    /// Returns the events, in their order.
     pub(crate) fn events(&self) -> &[Event]
         ensures { result.now ≡ self.now.events }
     {
         self.events.as_slice()
     }
 
-    /// What the workers are called.
+    /// Returns the names of the workers.
     pub(crate) fn workers(&self) -> &Roll<'a>
         ensures { result.now ≡ self.now.workers }
     {
         &self.workers
     }
 
-    /// What the jobs are called.
+    /// Returns the names of the jobs.
     pub(crate) fn jobs(&self) -> &Roll<'a>
         ensures { result.now ≡ self.now.jobs }
     {

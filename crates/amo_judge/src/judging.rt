@@ -19,7 +19,7 @@ use std::alloc::{AllocError, Global};
 /// The most bytes of a history.
 const MOST_BYTES: usize = MAX_TEXT;
 
-/// What is wrong with a line.
+/// Returns the fault of a line, in words.
 #[tactic(auto, unfolding(crate::specs::Judgement::wrong_text))]
 fn wrong_text(alloc: Global, wrong: Wrong) -> Result<String, AllocError>
     ensures { IfOk result (λ text. string_bytes text ≡ wrong_text wrong) }
@@ -54,7 +54,7 @@ fn refused_line(alloc: Global, line: usize, words: &str) -> Result<String, Alloc
     format!(in alloc; "refused\nline {line}: {words}\n")
 }
 
-/// The answer to what is no history.
+/// Returns the verdict on a text that isn't a history.
 fn refused_text(alloc: Global, refusal: Refusal) -> Result<String, AllocError>
     ensures { IfOk result (λ text. string_bytes text ≡ refused_text refusal) }
 {
@@ -75,7 +75,7 @@ fn unlawful_lines(
     format!(in alloc; "unlawful {number}\nline {line}: {event}\n{reason}\n")
 }
 
-/// The answer where an event of this number is no step behind those before it.
+/// Returns the verdict if an event of this number is no step after those before it.
 fn unlawful_text(
     alloc: Global,
     history: &History<'_>,
@@ -90,7 +90,7 @@ fn unlawful_text(
     unlawful_lines(alloc, number, text.as_str(), reason.as_str())
 }
 
-/// The answer where the first event that is no step has this number.
+/// Returns the verdict if the first event that is no step has this number.
 fn bad_text(alloc: Global, history: &History<'_>, number: u32) -> Result<String, AllocError>
     requires { (1 ≤ number) × (number ≤ length history.now.events) }
     ensures { IfOk result (λ text. string_bytes text ≡ verdict_text history.now (Verdict.FirstBad number)) }
@@ -99,7 +99,7 @@ fn bad_text(alloc: Global, history: &History<'_>, number: u32) -> Result<String,
     unlawful_text(alloc, history, number, before, behind[0])
 }
 
-/// The answer to a history.
+/// Returns the verdict on a history.
 fn history_text(alloc: Global, history: &History<'_>) -> Result<String, AllocError>
     ensures { IfOk result (λ text. string_bytes text ≡ verdict_text history.now (verdict history.now.givens history.now.events)) }
 {
@@ -109,7 +109,7 @@ fn history_text(alloc: Global, history: &History<'_>) -> Result<String, AllocErr
     }
 }
 
-/// The answer to what was read.
+/// Returns the verdict on a text that was read.
 fn answer(alloc: Global, read: Result<History<'_>, Refusal>) -> Result<String, AllocError>
     ensures { IfOk result (λ text. string_bytes text ≡ answer read.entry) }
 {
@@ -119,7 +119,7 @@ fn answer(alloc: Global, read: Result<History<'_>, Refusal>) -> Result<String, A
     }
 }
 
-/// The answer to a text that isn't too long.
+/// Returns the verdict on a text that isn't too long.
 fn judge_lines(alloc: Global, bytes: &[u8]) -> Result<String, AllocError>
     ensures { IfOk result (λ text. string_bytes text ≡ answer (history_in (lines_of bytes.now))) }
 {
@@ -128,10 +128,14 @@ fn judge_lines(alloc: Global, bytes: &[u8]) -> Result<String, AllocError>
     answer(alloc, read)
 }
 
-/// The answer to a text: `lawful`, if it is a history whose events are a run, and how many there
-/// are of each kind; `unlawful`, if they aren't, and which is the first that is no step, and why;
-/// or `refused`, if it is no history, and which line is wrong in what way, or that it is longer
-/// than 1,048,576 bytes. The only error is out of memory.
+/// Returns the verdict on a text, in lines. `lawful` means a history whose events are a run, with
+/// the number of events of each kind. `unlawful` comes with the first event that is no step, and
+/// the reason. `refused` means that the text isn't a history. It comes with the wrong line and its
+/// fault, or states that the text has more than 1,048,576 bytes.
+///
+/// # Errors
+///
+/// `AllocError` if there was no memory.
 pub fn judgement(alloc: Global, bytes: &[u8]) -> Result<String, AllocError>
     ensures text { IfOk result (λ text. string_bytes text ≡ judgement bytes.now) }
 {

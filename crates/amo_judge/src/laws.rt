@@ -1,5 +1,5 @@
-//! What the answers begin with, and that the reasons in them are so, each as the contract of a
-//! function that does nothing.
+//! The theorems on the judge: the first line of each verdict, and the reasons in it. Nothing here
+//! runs: each function's contract is a theorem. Start at `lawful_is_a_run`.
 ghost use Rattle.std.specs.Prelude.{◌≡◌, ◌≢◌, ◌<◌, ◌↔◌, ◌⊎◌, ◌++◌, ℕ, true, false, not, List, [], length, Some, codes};
 ghost use Rattle.std.specs.Fmt.{decimal};
 ghost use Rattle.std.specs.Option.{is_some};
@@ -20,31 +20,31 @@ ghost use Rattle.amo_judge.specs.Why.{end_of, claim_of, hand_of, hand_job, reaso
 ghost use Rattle.amo_judge.specs.declared.reasons.Reason.{Reason};
 ghost use Rattle.amo_judge.specs.declared.reasons.Reason.TheVariants.{NoWorker, Gone, NoJob, InHand, NotInHand, ClaimedBefore, Early};
 
-/// The answer begins with the line `lawful` just where the text is a history, by its lines, whose
-/// events are a run.
+/// States that the verdict begins with the line `lawful` exactly if the text is a history, by its
+/// lines, whose events are a run.
 pub fn lawful_is_a_run()
     ensures { (text : List ℕ) → BeginsWith (codes "lawful\n") (judgement text) ↔ IsLawfulText text }
 {}
 
-/// Where the text is a history whose events aren't a run, the answer begins with the line `unlawful
-/// I`, and `I` is the number of the first event that is no step.
+/// States that the verdict on a history whose events aren't a run begins with the line `unlawful
+/// I`. `I` is the number of the first event that is no step.
 pub fn unlawful_tells_the_first()
     ensures { (text : List ℕ) (number : ℕ) → IsUnlawfulText text number → BeginsWith (codes "unlawful " ++ decimal number ++ codes "\n") (judgement text) }
 {}
 
-/// The events of a history are a run, or there is a first one that is no step.
+/// States that the events of a history are a run, or have a first one that is no step.
 pub fn a_history_is_one_of_two()
     ensures { (text : List ℕ) (h : HistoryView) → Tells text h → IsLawfulText text ⊎ ((number : ℕ) × IsUnlawfulText text number) }
 {}
 
-/// The answer begins with the line `refused` just where the text is no history.
+/// States that the verdict begins with the line `refused` exactly if the text isn't a history.
 pub fn what_is_no_history_is_refused()
     ensures { (text : List ℕ) → BeginsWith (codes "refused\n") (judgement text) ↔ ((h : HistoryView) → Tells text h → ⊥) }
 {}
 
-/// What the reason of an unlawful answer looks for in the events before is what a step looks for in
-/// the state that they leave: who is gone, which job is in whose hand, which jobs are unclaimed,
-/// and how many are performed. For each event that is no step there is a reason.
+/// States that a reason of an unlawful verdict tests the same state as a step. It looks for it in
+/// the events before. The state says who is gone, which job is in whose hand, which jobs are
+/// unclaimed, and how many are performed. For each event that is no step there is a reason.
 pub fn why_tests_the_state()
     ensures gone { (g : GivensView) (before : List Event) (p : ℕ) → IsWorker g p → numbered true (object_after_all (first_object g) before).gone p ≡ is_some (end_of p before) }
     ensures hand { (g : GivensView) (before : List Event) (p : ℕ) → IsWorker g p → numbered 0 (object_after_all (first_object g) before).in_hand p ≡ hand_job (hand_of p before) }
@@ -53,17 +53,17 @@ pub fn why_tests_the_state()
     ensures found { (g : GivensView) (before : List Event) (event : Event) → is_step g (object_after_all (first_object g) before) event ≡ false → is_some (reason_of g before (worker_of event) event) ≡ true }
 {}
 
-/// The answer to a history whose events aren't a run tells the first event that is no step, and
-/// behind it the reason that is found for this event. That what it says is so, for each reason, are
-/// the laws that follow.
+/// States that the verdict on a history whose events aren't a run names the first event that is no
+/// step. The reason that is found for this event follows. The next theorems state, for each reason,
+/// that it holds.
 pub fn unlawful_tells_the_reason()
     ensures { (text : List ℕ) (number : ℕ) (t : IsUnlawfulText text number) → (reason : Reason)
         × (reason_of t.history.givens t.bad.before (worker_of t.bad.bad) t.bad.bad ≡ Some reason)
         × (judgement text ≡ unlawful_lines number (event_text t.history number t.bad.bad) (reason_text t.history reason)) }
 {}
 
-/// A worker or a job of which it is told that there is none is that of the event, and none of the
-/// givens.
+/// States that a worker or a job that a verdict calls unknown is the one of the event, and outside
+/// the givens.
 pub fn who_is_not_there_is_none()
     ensures worker { (g : GivensView) (before : List Event) (event : Event) (p : ℕ)
         → reason_of g before (worker_of event) event ≡ Some (NoWorker p)
@@ -73,17 +73,17 @@ pub fn who_is_not_there_is_none()
         → ((event ≡ Claimed (worker_of event) j) ⊎ (event ≡ Done (worker_of event) j)) × (IsJob g j → ⊥) }
 {}
 
-/// A worker of which it is told that it was gone is that of the event, and the event before it
-/// whose number is told is the one by which it was gone: it had ended, was halted or had left.
+/// States that a worker that a verdict calls gone is the one of the event. The event whose number
+/// the verdict names is the one by which it was gone: it had ended, was halted or had left.
 pub fn who_was_gone_went_in_that_event()
     ensures { (g : GivensView) (before : List Event) (event end : Event) (p i : ℕ)
         → reason_of g before (worker_of event) event ≡ Some (Gone p end i)
         → (worker_of event ≡ p) × (event_at before i ≡ Some end) × ((end ≡ Ended p) ⊎ ((end ≡ Halted p) ⊎ (end ≡ Left p))) }
 {}
 
-/// A worker of which it is told that it has a job in its hand is that of the event, and has it
-/// there in the state that the events before leave. In the event whose number is told it claimed
-/// this job, and no later one of those before is a claim or a done of it.
+/// States that a worker that a verdict calls busy is the one of the event. In the state that the
+/// events before leave, it has the named job in its hand. It claimed this job in the event whose
+/// number the verdict names. No later event of those before is a claim or a done of it.
 pub fn what_is_in_hand_was_claimed_in_that_event()
     ensures hand { (g : GivensView) (before : List Event) (event : Event) (p j i : ℕ)
         → reason_of g before (worker_of event) event ≡ Some (InHand p j i)
@@ -96,17 +96,17 @@ pub fn what_is_in_hand_was_claimed_in_that_event()
         → (later job : ℕ) → i < later → (event_at before later ≢ Some (Claimed p job)) × (event_at before later ≢ Some (Done p job)) }
 {}
 
-/// A job of which it is told that it was claimed is the one that the event claims, and the event
-/// before it whose number is told is a claim of this job by the worker that is told.
+/// States that a job that a verdict calls claimed is the one that the event claims. The event whose
+/// number the verdict names is a claim of this job by the worker that it names.
 pub fn what_was_claimed_was_claimed_in_that_event()
     ensures { (g : GivensView) (before : List Event) (event : Event) (j q i : ℕ)
         → reason_of g before (worker_of event) event ≡ Some (ClaimedBefore j q i)
         → (event ≡ Claimed (worker_of event) j) × (event_at before i ≡ Some (Claimed q j)) }
 {}
 
-/// Where it is told that a worker doesn't have a job in its hand, the event, which is no step, is a
-/// done of this job by this worker, and in the state that the events before leave this worker has
-/// another job in its hand, or none.
+/// States that an event that a verdict refuses since the job isn't in the worker's hand is a done
+/// of this job by this worker. In the state that the events before leave, this worker has another
+/// job in its hand, or none.
 pub fn what_is_not_in_hand_is_not_there()
     ensures { (g : GivensView) (before : List Event) (event : Event) (p j : ℕ)
         → is_step g (object_after_all (first_object g) before) event ≡ false
@@ -114,9 +114,9 @@ pub fn what_is_not_in_hand_is_not_there()
         → (event ≡ Done p j) × (numbered 0 (object_after_all (first_object g) before).in_hand p ≢ j) }
 {}
 
-/// Where it is told how many jobs are performed, the event, which is no step, is an end by the
-/// worker's own choice, so many are performed in the state that the events before leave, and they
-/// are fewer than the bound, which is told beside them.
+/// States that an event that a verdict refuses as an early end is an end by the worker's own
+/// choice. As many jobs as the verdict names are performed in the state that the events before
+/// leave. They are fewer than the bound, which the verdict names too.
 pub fn who_ends_early_ends_below_the_bound()
     ensures { (g : GivensView) (before : List Event) (event : Event) (performed least : ℕ)
         → is_step g (object_after_all (first_object g) before) event ≡ false
@@ -124,9 +124,9 @@ pub fn who_ends_early_ends_below_the_bound()
         → (event ≡ Ended (worker_of event)) × (length (object_after_all (first_object g) before).performed ≡ performed) × (least ≡ bound g) × (performed < least) }
 {}
 
-/// The reason that is told is the first that holds, in the order of the table of docs/FORMATS.md:
-/// the worker is there where another reason is told than that there is none, and isn't gone where
-/// one behind that is told; then the job is there; then the worker has nothing in its hand.
+/// States that a verdict has the first reason that holds, in the order of the table of
+/// docs/FORMATS.md. The worker exists if any reason but an unknown worker is given, and isn't gone
+/// if a later reason is given. Then the job exists, and then the worker has nothing in its hand.
 pub fn no_reason_before_it_holds()
     ensures gone { (g : GivensView) (before : List Event) (event end : Event) (p i : ℕ)
         → reason_of g before (worker_of event) event ≡ Some (Gone p end i)

@@ -1,6 +1,14 @@
-//! The judge of written histories: a text of events, whatever system wrote it, is a run of the one
-//! sequential set of unclaimed jobs, or here is the first event that isn't, and why. In `laws`,
-//! what the answer begins with, and that the reason in it is so.
+//! The judge of written histories, of whatever system: whether the events are a run of the one
+//! sequential set of unclaimed jobs.
+//!
+//! Start at [`judgement`], which takes a text and returns the verdict as a text. If an event isn't
+//! a step, the verdict names the first such event and the reason. The theorems stand in the module
+//! [`laws`].
+//!
+//! | here | in the glossary |
+//! |---|---|
+//! | p | a worker |
+//! | j | a job |
 #![tactic(auto)]
 
 mod before;

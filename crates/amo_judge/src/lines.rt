@@ -4,7 +4,7 @@ ghost use Rattle.amo_judge.specs.Lines.{without_last_feed, split_lines, lines_of
 
 use std::alloc::{AllocError, Global};
 
-/// The text without the line feed at its end, if it has one there.
+/// Returns the text without the line feed at its end, if it has one there.
 fn without_last_feed(text: &[u8]) -> &[u8]
     ensures { result.now ≡ without_last_feed text.now }
 {
@@ -15,21 +15,21 @@ fn without_last_feed(text: &[u8]) -> &[u8]
     text
 }
 
-/// The parts between the line feeds.
+/// Returns the parts between the line feeds.
 fn split_lines(alloc: Global, text: &[u8]) -> Result<Vec<&[u8]>, AllocError>
     ensures { IfOk result (λ lines. map (λ line. line.now) lines.items ≡ split_lines text.now) }
 {
     text.split(|b| *b == b'\n').collect(alloc)
 }
 
-/// The lines of a text; its last may lack its end.
+/// Returns the lines of a text. The last line may lack its end.
 pub(crate) fn lines_of(alloc: Global, text: &[u8]) -> Result<Vec<&[u8]>, AllocError>
     ensures { IfOk result (λ lines. map (λ line. line.now) lines.items ≡ lines_of text.now) }
 {
     split_lines(alloc, without_last_feed(text))
 }
 
-/// The words of a line, one blank between each two.
+/// Returns the words of a line, which one blank separates.
 pub(crate) fn words_of(alloc: Global, line: &[u8]) -> Result<Vec<&[u8]>, AllocError>
     ensures { IfOk result (λ words. map (λ word. word.now) words.items ≡ words_of line.now) }
 {
@@ -51,7 +51,7 @@ fn ends_history(line: &[u8]) -> bool
     line.starts_with(b"worker ")
 }
 
-/// How many of the lines tell of events: those before the first that ends the history.
+/// Returns the number of lines with events: those before the first that ends the history.
 pub(crate) fn told(lines: &[&[u8]]) -> usize
     ensures is { result ≡ told (map (λ line. line.now) lines.now) }
     ensures within { result ≤ length lines.now }

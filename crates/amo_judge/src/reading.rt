@@ -1,4 +1,4 @@
-//! Reads the history that lines tell.
+//! Reads a history line by line.
 ghost use Rattle.std.specs.Prelude.{◌≡◌, IfOk, map};
 ghost use Rattle.amo_judge.specs.History.{first_history, with_lines, lines_behind, history_in};
 
@@ -8,7 +8,7 @@ use crate::lines::{told, words_of};
 use crate::refusal::{Refusal, Wrong};
 use std::alloc::{AllocError, Global};
 
-/// The history with the event of each of these lines.
+/// Returns the history with the event of each of these lines.
 fn with_lines<'a>(
     alloc: Global,
     opening: Opening,
@@ -25,7 +25,7 @@ fn with_lines<'a>(
     Ok(Ok(history))
 }
 
-/// The history of the lines behind the first, up to the one that ends it.
+/// Returns the history of the lines after the first, up to the one that ends it.
 fn lines_behind<'a>(
     alloc: Global,
     opening: Opening,
@@ -37,7 +37,7 @@ fn lines_behind<'a>(
     with_lines(alloc, opening, front)
 }
 
-/// The history that lines tell, up to the first that ends it.
+/// Returns the history of these lines, up to the first that ends it.
 pub(crate) fn read_history<'a>(
     alloc: Global,
     lines: &[&'a [u8]],

@@ -1,4 +1,4 @@
-//! Says why an event is no step.
+//! The reasons that an event is no step.
 ghost use Rattle.std.specs.Prelude.{◌≡◌, IfOk, string_bytes};
 ghost use Rattle.amo_givens.specs.Givens.{is_within};
 ghost use Rattle.amo_judge.specs.Why.{gone_words, gone_reason, hand_reason, claim_reason, reason_here, reason_of, not_in_hand_text, claimed_text, early_text, reason_text, why_of};
@@ -10,22 +10,23 @@ use amo_givens::Givens;
 use amo_kk::Event;
 use std::alloc::{AllocError, Global};
 
-/// Why an event is no step behind those before it.
+/// The reason that an event is no step after those before it.
 #[derive(Clone, Copy, Debug, PartialEq, Eq)]
 pub(crate) enum Reason {
-    /// There is no such worker.
+    /// No worker has this number.
     NoWorker(u32),
-    /// The worker was gone by this event, of this number.
+    /// This worker was gone by this event, of this number.
     Gone(u32, Event, usize),
-    /// There is no such job.
+    /// No job has this number.
     NoJob(u32),
-    /// The worker has the job in its hand since the event of this number.
+    /// This worker has this job in its hand since the event of this number.
     InHand(u32, u32, usize),
-    /// The worker doesn't have the job in its hand.
+    /// This worker doesn't have this job in its hand.
     NotInHand(u32, u32),
-    /// The job was claimed by the worker in the event of this number.
+    /// This job was claimed by this worker in the event of this number.
     ClaimedBefore(u32, u32, usize),
-    /// So many jobs are performed, and a worker may end by its own choice from so many on.
+    /// The number of performed jobs (first) is below the number from which on a worker may end by
+    /// its own choice.
     Early(usize, u32),
 }
 
@@ -36,7 +37,7 @@ fn is_within(n: u32, k: u32) -> bool
     1 <= k && k <= n
 }
 
-/// What became of a worker by the event.
+/// Returns the words for the way in which the event ended a worker's steps.
 fn gone_words(event: Event) -> &'static str
     ensures { result.now ≡ gone_words event }
 {
@@ -48,7 +49,7 @@ fn gone_words(event: Event) -> &'static str
     }
 }
 
-/// That worker p was gone before, if it was.
+/// Returns the reason that worker p was gone before, if it was.
 fn gone_reason(p: u32, before: &[Event]) -> Option<Reason>
     ensures { result ≡ gone_reason p before.now }
 {
@@ -56,7 +57,7 @@ fn gone_reason(p: u32, before: &[Event]) -> Option<Reason>
     Some(Reason::Gone(p, event, number))
 }
 
-/// That worker p has a job in its hand, if it has.
+/// Returns the reason that worker p has a job in its hand, if it has.
 fn hand_reason(p: u32, before: &[Event]) -> Option<Reason>
     ensures { result ≡ hand_reason p before.now }
 {
@@ -64,7 +65,7 @@ fn hand_reason(p: u32, before: &[Event]) -> Option<Reason>
     Some(Reason::InHand(p, job, number))
 }
 
-/// That job j was claimed before, if it was.
+/// Returns the reason that job j was claimed before, if it was.
 fn claim_reason(j: u32, before: &[Event]) -> Option<Reason>
     ensures { result ≡ claim_reason j before.now }
 {
@@ -72,7 +73,7 @@ fn claim_reason(j: u32, before: &[Event]) -> Option<Reason>
     Some(Reason::ClaimedBefore(j, worker_of(event), number))
 }
 
-/// Why the event is no step behind these, if its worker is there.
+/// Returns the reason that the event is no step after these, if its worker exists.
 fn reason_here(givens: Givens, before: &[Event], event: Event) -> Option<Reason>
     ensures { result ≡ reason_here givens before.now event }
 {
@@ -91,7 +92,7 @@ fn reason_here(givens: Givens, before: &[Event], event: Event) -> Option<Reason>
     }
 }
 
-/// Why the event, of worker p, is no step behind these.
+/// Returns the reason that the event, of worker p, is no step after these.
 fn reason_of(givens: Givens, before: &[Event], p: u32, event: Event) -> Option<Reason>
     ensures { result ≡ reason_of givens before.now p event }
 {
@@ -127,7 +128,7 @@ fn early_text(alloc: Global, performed: usize, least: u32) -> Result<String, All
     )
 }
 
-/// The reason in words, where workers and jobs are called as in this history.
+/// Returns the reason in words, with the names of this history.
 #[tactic(auto, unfolding(crate::specs::Why::reason_text))]
 fn reason_text(alloc: Global, history: &History<'_>, reason: Reason) -> Result<String, AllocError>
     ensures { IfOk result (λ text. string_bytes text ≡ reason_text history.now reason) }
@@ -163,7 +164,7 @@ fn reason_text(alloc: Global, history: &History<'_>, reason: Reason) -> Result<S
     }
 }
 
-/// Why the event, of worker p, is no step behind these, in words.
+/// Returns the reason that the event, of worker p, is no step after these, in words.
 pub(crate) fn why_of(
     alloc: Global,
     history: &History<'_>,

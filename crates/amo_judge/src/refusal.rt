@@ -1,27 +1,27 @@
-//! Why a text is no history.
+//! The faults of a text that isn't a history.
 
 use amo_givens::GivensFault;
 
-/// What is wrong with a line.
+/// The fault of a line.
 #[derive(Clone, Copy, Debug, PartialEq, Eq)]
 pub(crate) enum Wrong {
-    /// It isn't the first line of a history.
+    /// The line isn't the first line of a history.
     NoFirstLine,
-    /// Its numbers are no givens.
+    /// The numbers of the line are outside their limits.
     NoGivens(GivensFault),
-    /// The bound of its numbers is this one, and not the one that it says.
+    /// The numbers have this bound, and the line says another one.
     OtherBound(u32),
-    /// It tells of no event.
+    /// The line has no event.
     NoEvent,
-    /// The number of its event isn't this one, which is due.
+    /// The number of the event isn't this one, which is due.
     NotDue(usize),
-    /// It names a worker beyond so many.
+    /// The line names a worker beyond so many.
     WorkerBeyond(u32),
-    /// It names a job beyond so many.
+    /// The line names a job beyond so many.
     JobBeyond(u32),
 }
 
-/// The line of this number, from 1, is refused, for this.
+/// The line with this number, from 1, and its fault.
 #[derive(Clone, Copy, Debug, PartialEq, Eq)]
 pub(crate) struct Refusal {
     pub(crate) line: usize,

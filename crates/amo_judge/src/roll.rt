@@ -1,4 +1,4 @@
-//! What workers or jobs are called: their numbers, or words that are numbered as they first come.
+//! The names of workers or jobs: their numbers, or words that are numbered as they first come.
 ghost use Rattle.std.specs.Prelude.{◌≡◌, IfOk, OnOk, string_bytes, map, option_map};
 ghost use Rattle.amo_judge.specs.Roll.{empty_roll, small_number_in, text_in, name_in, place_in, number_on, with_word, called};
 
@@ -8,10 +8,10 @@ use std::alloc::{AllocError, Global};
 use std::marker::Model;
 use std::str;
 
-/// The longest name has so many bytes.
+/// The most bytes of a name.
 const LONGEST_NAME: usize = 64;
 
-/// The words that came so far, where there are names.
+/// The words that came so far, if there are names.
 #[derive(Drop)]
 pub(crate) struct Roll<'a> {
     named: bool,
@@ -27,7 +27,7 @@ impl<'a> Model for Roll<'a> {
     ghost view = { λ r. record { named = r.named; words = map (λ word. word.now) r.words.items } };
 }
 
-/// The number below 2 to the 32 that a word says.
+/// Returns the number below 2 to the 32 that a word says.
 fn small_number_in(word: &[u8]) -> Option<u32>
     ensures { result ≡ small_number_in word.now }
 {
@@ -38,7 +38,7 @@ fn small_number_in(word: &[u8]) -> Option<u32>
     Some(number as u32)
 }
 
-/// The bytes as text, if they are text.
+/// Returns the bytes as text, if they are text.
 fn text_in(bytes: &[u8]) -> Option<&str>
     ensures { option_map (λ text. text.now) result ≡ text_in bytes.now }
 {
@@ -48,7 +48,7 @@ fn text_in(bytes: &[u8]) -> Option<&str>
     }
 }
 
-/// The word as a name, if it may be one.
+/// Returns the word as a name, if it may be one.
 fn name_in(word: &[u8]) -> Option<&str>
     ensures { option_map (λ name. name.now) result ≡ name_in word.now }
 {
@@ -58,7 +58,7 @@ fn name_in(word: &[u8]) -> Option<&str>
     text_in(word)
 }
 
-/// The place of the name among these, or behind them.
+/// Returns the place of the name among these, or their number if it isn't there.
 fn place_in(words: &[&str], name: &str) -> usize
     ensures { result ≡ place_in name.now (map (λ word. word.now) words.now) }
 {
@@ -71,7 +71,7 @@ fn place_in(words: &[&str], name: &str) -> usize
 }
 
 impl<'a> Roll<'a> {
-    /// A roll without words.
+    /// Returns a roll without words.
     pub(crate) fn new(alloc: Global, named: bool) -> Roll<'a>
         ensures { result ≡ empty_roll named }
     {
@@ -81,7 +81,7 @@ impl<'a> Roll<'a> {
         }
     }
 
-    /// The number for which a word stands, where there are so many at most.
+    /// Returns the number for which a word stands, if there are at most so many.
     pub(crate) fn number_on(&self, most: u32, beyond: Wrong, word: &[u8]) -> Result<u32, Wrong>
         ensures { result ≡ number_on self.now most beyond word.now }
     {
@@ -96,7 +96,8 @@ impl<'a> Roll<'a> {
         Ok(place as u32 + 1)
     }
 
-    /// Notes that a word came. What the roll is after an error isn't said: a caller drops it.
+    /// Notes that a word came. After an error the roll may have any content, and the caller must
+    /// drop it.
     pub(crate) fn note(&mut self, word: &'a [u8]) -> Result<(), AllocError>
         ensures { OnOk result (self.new ≡ with_word self.old word.now) }
     {
@@ -112,7 +113,7 @@ impl<'a> Roll<'a> {
         Ok(())
     }
 
-    /// What the one of this number is called.
+    /// Returns the name of the worker or job of this number.
     pub(crate) fn called(&self, alloc: Global, number: u32) -> Result<String, AllocError>
         ensures { IfOk result (λ name. string_bytes name ≡ called self.now number) }
     {

@@ -1,4 +1,4 @@
-//! Tells events.
+//! Events in words.
 ghost use Rattle.std.specs.Prelude.{◌≡◌, ◌++◌, IfOk, string_bytes};
 ghost use Rattle.amo_judge.specs.Telling.{word_for, worker_of, pair_text, lone_text, event_text, count_for, worked_text, went_text, lawful_text};
 
@@ -6,7 +6,7 @@ use crate::history::History;
 use amo_kk::Event;
 use std::alloc::{AllocError, Global};
 
-/// The word for what happened.
+/// Returns the word for the kind of event.
 fn word_for(event: Event) -> &'static str
     ensures { result.now ≡ word_for event }
 {
@@ -19,7 +19,7 @@ fn word_for(event: Event) -> &'static str
     }
 }
 
-/// The worker to whom it happened.
+/// Returns the worker of the event.
 pub(crate) fn worker_of(event: Event) -> u32
     ensures { result ≡ worker_of event }
 {
@@ -29,7 +29,7 @@ pub(crate) fn worker_of(event: Event) -> u32
     }
 }
 
-/// The event, of this number, of a worker and a job that are called so.
+/// Returns the line of an event with this number, worker and job.
 #[tactic(auto, unfolding(crate::specs::Telling::pair_text))]
 fn pair_text(
     alloc: Global,
@@ -43,7 +43,7 @@ fn pair_text(
     format!(in alloc; "{number} {word} {worker} {job}")
 }
 
-/// The event, of this number, of a worker who is called so.
+/// Returns the line of an event with this number and worker.
 #[tactic(auto, unfolding(crate::specs::Telling::lone_text))]
 fn lone_text(alloc: Global, number: u32, word: &str, worker: &str) -> Result<String, AllocError>
     ensures { IfOk result (λ text. string_bytes text ≡ lone_text number word.now worker.now) }
@@ -51,7 +51,7 @@ fn lone_text(alloc: Global, number: u32, word: &str, worker: &str) -> Result<Str
     format!(in alloc; "{number} {word} {worker}")
 }
 
-/// The event, of this number, as it was read.
+/// Returns the line of the event, as it was read.
 pub(crate) fn event_text(
     alloc: Global,
     history: &History<'_>,
@@ -73,7 +73,7 @@ pub(crate) fn event_text(
     }
 }
 
-/// How many events have this word.
+/// Returns how many events have this word.
 fn count_for(word: &str, events: &[Event]) -> usize
     ensures { result ≡ count_for word.now events.now }
 {
@@ -83,7 +83,7 @@ fn count_for(word: &str, events: &[Event]) -> usize
         .count()
 }
 
-/// The first part of the answer to a run.
+/// Returns the first part of the verdict on a run.
 #[tactic(auto, unfolding(crate::specs::Telling::worked_text))]
 fn worked_text(
     alloc: Global,
@@ -96,7 +96,7 @@ fn worked_text(
     format!(in alloc; "lawful\nevents {events} claimed {claimed} done {done}")
 }
 
-/// How many workers are gone, in which ways.
+/// Returns how many workers are gone, in each way.
 #[tactic(auto, unfolding(crate::specs::Telling::went_text))]
 fn went_text(alloc: Global, ended: usize, halted: usize, left: usize) -> Result<String, AllocError>
     ensures { IfOk result (λ text. string_bytes text ≡ went_text ended halted left) }
@@ -110,7 +110,7 @@ fn both(alloc: Global, one: &str, other: &str) -> Result<String, AllocError>
     format!(in alloc; "{one}{other}")
 }
 
-/// The answer to a run: how many events there are, and of each kind.
+/// Returns the verdict on a run: how many events there are, and of each kind.
 pub(crate) fn lawful_text(alloc: Global, events: &[Event]) -> Result<String, AllocError>
     ensures { IfOk result (λ text. string_bytes text ≡ lawful_text events.now) }
 {

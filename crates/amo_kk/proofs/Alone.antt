@@ -306,8 +306,8 @@ module _ (g : Givens) (ok : AreGivens g) (p : ℕ) (o : IsWorker g p) (at : ℕ 
   few_turns (Announcing j) = let s = ok.some in omega arith
   few_turns phase = let s = ok.some in omega arith
 
--- From every lawful world, a worker that isn't gone claims a job or ends within lone_bound turns of its own, and
--- begins at most three attempts, or two if it is in one.
+-- Consider a worker that isn't gone, in any lawful world. It claims a job or ends within lone_bound
+-- turns of its own, and begins at most three attempts, or two if it is in one.
 pub stores_few : (g : Givens) (w : World) (p : ℕ) → AreGivens g → IsLawful g w → (process w p).gone ≡ false
     → (i : ℕ) × (i < lone_bound g) × IsFirstToClaimOrEnd g w p i × (stored_within g w p i ≤ to_begin (process w p).local.phase + 2)
 stores_few g w p ok law here =

@@ -21,7 +21,7 @@ use Rattle.amo_kk.proofs.Choice.{choice_cases, check_cases, to_row_cases, to_ann
 use Rattle.amo_kk.proofs.Worlds.{here_is_worker}
 use Rattle.amo_kk.proofs.OwnTurns.{next_record, stored, left_from, one_fewer, heard, read_of}
 
--- 1 where the entry at place e of the row of q is still to be read
+-- 1 if the entry at place e of the row of q is still to be read
 abbrev pub unread_in : (q e : ℕ) → List ℕ → ℕ
 unread_in q e fronts = if nat_le e (numbered 0 fronts q) then 0 else 1
 

@@ -85,7 +85,7 @@ stored_in_want r phase = refl
 abbrev pub stored_within : Givens → World → ℕ → ℕ → ℕ
 stored_within g w p i = turns_that (λ k. stores_announcement (want_at g w p k)) i
 
--- how many attempts are still to begin from this phase, where the attempt passes
+-- how many attempts are still to begin from this phase, if the attempt passes
 abbrev pub to_begin : Phase → ℕ
 to_begin (Announcing j) = 1
 to_begin (Holding j) = 1

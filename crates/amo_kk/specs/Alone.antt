@@ -71,9 +71,9 @@ attempts_going_on (Reading j q) = 1
 attempts_going_on (Claiming j) = 1
 attempts_going_on phase = 0
 
--- The number of the attempt to which the turn of p after k others belongs: 1 for the attempt that goes on from w, or else
--- for the first that begins, and one more with each announcement that is stored. A turn with number 0 belongs to no
--- attempt.
+-- The number of the attempt to which the turn of p after k others belongs. It is 1 for the attempt
+-- that goes on from w, or else for the first that begins. It is one more with each announcement
+-- that is stored. A turn with number 0 belongs to no attempt.
 abbrev pub attempt_at : Givens → World → ℕ → ℕ → ℕ
 attempt_at g w p k =
     attempts_going_on (process w p).local.phase + turns_that (λ l. stores_announcement (want_at g w p l)) k

@@ -1,4 +1,4 @@
-//! The events of a history, and what a step of a worker shows.
+//! The events of a history, and those that a step of a worker shows.
 
 /// `Event`: one entry of a history, with its worker and its job. It is also a step of the
 /// sequential object, the set of unclaimed jobs, with which a history is compared.

@@ -70,8 +70,7 @@ fn open_without(free: &JobSet, tried: &JobSet, open_count: u32, j: u32) -> u32
 }
 
 impl Knowledge {
-    /// Returns the knowledge of a worker that has seen nothing yet. The only error is out of
-    /// memory.
+    /// Returns the knowledge of a worker that has seen nothing yet. Fails if there was no memory.
     pub(crate) fn new(alloc: Global, jobs: u32) -> Result<Knowledge, AllocError>
         ensures { IfOk result (λ k. k ≡ record { range = jobs; known = []; tried = [] }) }
     {

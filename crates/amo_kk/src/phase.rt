@@ -4,8 +4,8 @@ ghost use Rattle.amo_givens.specs.Givens.{next_other};
 
 use crate::event::Leaving;
 
-/// `Phase`: what a worker is about to do. The first number is the job of its attempt, the second
-/// another worker.
+/// `Phase`: the next thing that a worker does. The first number is the job of its attempt, the
+/// second another worker.
 #[derive(Clone, Copy, Debug, PartialEq, Eq)]
 pub enum Phase {
     /// It announces the job next.

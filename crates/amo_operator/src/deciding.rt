@@ -1,4 +1,4 @@
-//! Which answers of an operator are appended.
+//! The answers of an operator that are appended.
 ghost use Rattle.std.specs.Prelude.{◌≡◌, Some, None, option_map, IfErr, IfOk, OnOk};
 ghost use Rattle.amo_status.specs.Answers.{refusal_now};
 ghost use Rattle.amo_operator.specs.Halting.{Because};

@@ -1,4 +1,4 @@
-//! Why a command of an operator is not carried out.
+//! The reasons why a command of an operator is not carried out.
 ghost use Rattle.std.specs.Prelude.{◌≡◌};
 ghost use Rattle.amo_operator.specs.declared.halt.Halt.TheVariants.{Memory};
 

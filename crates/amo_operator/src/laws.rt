@@ -5,15 +5,15 @@ ghost use Rattle.amo_operator.specs.Calls.{Request, Call, request_of};
 ghost use Rattle.amo_operator.specs.Phase.{Phase};
 ghost use Rattle.amo_operator.specs.Protocol.{AreAllowed, MayCall, Moves, Stands};
 
-/// A process that records its calls is in the phase after them: each call more that is allowed
-/// moves it on, as `OperatorHost` ensures of each method.
+/// States that a process that records its calls is in the phase after them: each call more that is
+/// allowed moves it on, as `OperatorHost` ensures of each method.
 pub fn records_tell_where_it_stands()
     ensures { (first : Phase) (cs : List Call) (c : Call) → Moves (Stands first cs) (Stands first (cs ++ c ∷ [])) c }
 {}
 
-/// If a call may be made next, each of the recorded calls and that one are allowed by the phase
-/// before it. So this holds if the process is killed in the call, and if the call comes about and
-/// its result is lost.
+/// States that if a call may be made next, each of the recorded calls and that one are allowed by
+/// the phase before it. So this holds if the process is killed in the call, and if the call comes
+/// about and its result is lost.
 pub fn calls_are_allowed()
     ensures { (first : Phase) (cs : List Call) (c : Call) → MayCall (Stands first cs) (request_of c) → AreAllowed first (cs ++ c ∷ []) }
 {}

@@ -1,4 +1,4 @@
--- What comes of a plan's blocks fits the plan.
+-- The outputs of a plan's blocks fit the plan.
 use Rattle.std.proofs.Common.{Vec, Global, ◌≡◌, ℕ, zero, suc, List, length, drop, refl, sym, ap, ◌∙◌, subst}
 use Rattle.std.specs.Int.{div_ceil}
 use Rattle.amo_plan.specs.declared.answer.Answer.{Answer}

@@ -1,4 +1,4 @@
--- What is noted of each block is what became of it, and so the lines are the same.
+-- The notes on each block agree with its fate, and so the lines are the same.
 use Rattle.std.proofs.Common.{◌≡◌, ℕ, ◌+◌, ◌≤◌, Bool, true, false, List, [], ◌∷◌, ◌++◌, append_assoc, length, Option, Some, None, refl, sym, ap, ◌∙◌, arith}
 use Rattle.std.specs.Prelude.{◌&&◌, ◌||◌, ◌==◌, nat_le, is_some}
 use Rattle.std.specs.Int.{div_ceil}
@@ -52,7 +52,7 @@ lines_agree f g jobs block n same some blocks j (name ∷ names) low high =
     ap (λ (fate : Fate). fate_line j (place_of block j) name fate.doer fate.output fate.claimer ++ job_lines f block (j + 1) names) (same (block_of block j) (omega arith) (omega (arith, inside, blocks)))
     ∙ ap (λ l. job_line g block j name ++ l) (lines_agree f g jobs block n same some blocks (j + 1) names (omega arith) (omega arith))
 
--- the lines are the same where the same became of each block
+-- the lines are the same if each block has the same fate
 pub run_agrees : (h : Heads) (ends : List End) (claims dones : List (List ℕ)) (f g : ℕ → Fate) → 1 ≤ h.block → div_ceil (length h.names) h.block ≡ h.givens.jobs
     → ((b : ℕ) → 1 ≤ b → b ≤ h.givens.jobs → f b ≡ g b) → run_lines h ends claims dones f ≡ run_lines h ends claims dones g
 unfolding run_lines

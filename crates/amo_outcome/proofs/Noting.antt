@@ -24,7 +24,7 @@ get_last : (xs : List Handed) (x : Handed) → slice_get (xs ++ x ∷ []) (lengt
 get_last [] x = refl
 get_last (z ∷ xs) x = get_last xs x
 
--- less than the number, where there is one
+-- less than the number, if there is one
 abbrev IsBelow : ℕ → Option ℕ → Type 0
 IsBelow q None = ⊤
 IsBelow q (Some p) = q < p

@@ -1,4 +1,4 @@
--- What became of a block: which worker has done it, and which has claimed it.
+-- The fate of a block: the worker that has done it, and the one that has claimed it.
 use Rattle.std.specs.Prelude.{ℕ, ◌+◌, Bool, ◌&&◌, ◌==◌, if◌then◌else◌, List, [], ◌∷◌, map, filter, find, Option, Some, None, is_some}
 use Rattle.std.proofs.Common.{Vec, Global}
 use Rattle.amo_sets.specs.Lists.{numbered}
@@ -41,7 +41,8 @@ abbrev pub first_output : List Handed → ℕ → Option ℕ → Option Handed
 first_output outputs b None = None
 first_output outputs b (Some p) = output_of outputs p b
 
--- What became of a block: who has done it, with what output, and who has claimed it.
+-- The fate of a block: the worker that has done it, with its output, and the worker that has
+-- claimed it.
 pub record Fate : Type 0 where
   pub doer : Option ℕ
   pub output : Option Handed

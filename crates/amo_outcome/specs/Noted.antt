@@ -23,7 +23,7 @@ abbrev pub noted_with : Bool → Option BlockDone → BlockDone → Option Block
 noted_with true noted later = Some (kept noted later)
 noted_with false noted later = noted
 
--- What is noted of block b is the first output of the least worker that has done it by this test.
+-- The note on block b is the first output of the least worker that has done it by this test.
 abbrev pub IsNoted : (ℕ → ℕ → Bool) → List Handed → ℕ → Option BlockDone → Type 0
 IsNoted has_done outputs b None = doer_of has_done outputs b ≡ None
 IsNoted has_done outputs b (Some f) =
@@ -50,6 +50,6 @@ noted_fate outputs filed claimers b = fate_in outputs (numbered None filed b) (n
 abbrev pub filed_blocks : List (Option BlockDone) → ℕ → List ℕ
 filed_blocks filed n = members n (λ b. is_some (option_map (λ (f : BlockDone). f.worker) (numbered None filed b)))
 
--- worker p, where it has claimed block b
+-- worker p, if it has claimed block b
 abbrev pub claimed_by : ℕ → List ℕ → ℕ → Option ℕ
 claimed_by p claims b = if has claims b then Some p else None

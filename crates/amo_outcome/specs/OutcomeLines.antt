@@ -66,7 +66,7 @@ fate_line j place name (Some p) output claimer = done_line j p name (text_in pla
 fate_line j place name None output (Some p) = claimed_line j p name
 fate_line j place name None output None = free_line j name
 
--- the block of job j, where a block has so many jobs, and the place of the job in it, from 0
+-- the block of job j, if a block has so many jobs, and the place of the job in it, from 0
 abbrev pub block_of : ℕ → ℕ → ℕ
 block_of block j = suc ((j - 1) / block)
 

@@ -1,4 +1,4 @@
--- What comes of a run of a plan's jobs in threads, and the text of it.
+-- The outcome of a run of a plan's jobs in threads, and the text of it.
 use Rattle.std.proofs.Common.{Vec, Global}
 use Rattle.std.specs.Prelude.{◌≡◌, ◌≢◌, ℕ, List, Option, IfSome, Err, map}
 use Rattle.std.specs.Result.{IsOkAnd}
@@ -30,7 +30,7 @@ abbrev pub AreStarted : Started → List End → Type 0
 AreStarted All ends = AllStarted ends
 AreStarted NotAll ends = SomeRefused ends
 
--- What came of executing these blocks in threads, each with its budget of steps.
+-- This is the outcome of these blocks, executed in threads, each worker with its budget of steps.
 pub record HasComeOf (g : Givens) (blocks : List (List Task)) (budgets : List ℕ) (started : Started) (o : Outcome (List Task) (Vec Answer Global)) : Type 0 where
   pub is : IsOutcome AreAnswers g blocks budgets o
   pub threads : AreStarted started o.ends.items
@@ -62,7 +62,8 @@ WritesRun started known old new = IfSome known (λ bytes. IsOkAnd (plan_of bytes
 abbrev pub WritesRunFront : Option (List ℕ) → Option (List ℕ) → Option (List ℕ) → Type 0
 WritesRunFront known old new = IfSome known (λ bytes. IsOkAnd (plan_of bytes) (λ p. (started : Started) × ((text : List ℕ) × IsRunText started p text × AppendsFront old new text)))
 
--- What is left where the text of a run was not written whole. Out of memory is never given as a fault of the plan.
+-- The streams after a fault of the text of a run. Out of memory is never given as a fault of the
+-- plan.
 abbrev pub RefusesRun : ReplayFault → Option (List ℕ) → Option (List ℕ) → Option (List ℕ) → Type 0
 RefusesRun (replay.Plan f) known old new = IfSome known (λ bytes. plan_of bytes ≡ Err f) × (f ≢ fault.NoMemory) × Keeps old new
 RefusesRun replay.Read known old new = Keeps old new

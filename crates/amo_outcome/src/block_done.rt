@@ -1,4 +1,4 @@
-//! Which output says of a block that it is done.
+//! The outputs that show that a block is done.
 ghost use Rattle.std.specs.Prelude.{◌≡◌, ◌≤◌, ◌<◌, ◌^◌, ◌==◌, ◌&&◌, ℕ, None, Some, true, IfOk, length, replicate, sum_by};
 ghost use Rattle.std.proofs.Common.{Vec, Global};
 ghost use Rattle.std.specs.List.{AllZip};
@@ -20,7 +20,7 @@ pub(crate) struct BlockDone {
     pub(crate) place: usize,
 }
 
-/// Adds a number to a set, where it is one of those that the set may have.
+/// Adds a number to a set, if it is one of those that the set may have.
 fn add(set: &mut JobSet, job: u32)
     ensures { set.new ≡ put set.old job true }
 {
@@ -29,7 +29,7 @@ fn add(set: &mut JobSet, job: u32)
     }
 }
 
-/// The numbers of `1..=jobs` that a list has, as a set.
+/// Returns the numbers of `1..=jobs` that a list has, as a set.
 #[tactic(auto, using(amo_render::proofs::Marks::marked_more))]
 fn set_of(alloc: Global, jobs: u32, list: &[u32]) -> Result<JobSet, AllocError>
     ensures { IfOk result (IsSetOf jobs list.now) }
@@ -65,7 +65,7 @@ fn is_in(sets: &[JobSet], number: u32, job: u32) -> bool
     }
 }
 
-/// The output that stays noted: the earlier, unless the later is of a lesser worker.
+/// Returns the output that stays noted: the earlier, unless the later is of a lesser worker.
 fn kept(earlier: Option<BlockDone>, later: BlockDone) -> BlockDone
     ensures { result ≡ kept earlier later }
 {
@@ -86,7 +86,7 @@ fn note(filed: &mut [Option<BlockDone>], job: u32, output: BlockDone)
     }
 }
 
-/// Notes the output at a place, where the set of its worker has its job.
+/// Notes the output at a place, if the set of its worker has its job.
 #[tactic(auto, using(crate::proofs::Noting::put_noted, crate::proofs::Noting::not_noted))]
 fn note_output(
     filed: &mut [Option<BlockDone>],
@@ -145,7 +145,7 @@ pub(crate) fn count_filed(filed: &[Option<BlockDone>]) -> usize
     count
 }
 
-/// How many jobs these blocks have.
+/// Returns how many jobs these blocks have.
 pub(crate) fn count_filed_jobs(filed: &[Option<BlockDone>], block: u32, jobs: usize) -> u64
     requires { length filed.now < 2 ^ 32 }
     ensures { result ≡ sum_by (jobs_in_block block jobs) (filed_blocks filed.now (length filed.now)) }

@@ -1,4 +1,4 @@
-//! Which worker has claimed a block.
+//! The worker that has claimed a block.
 ghost use Rattle.std.specs.Prelude.{◌≡◌, ◌≤◌, ◌<◌, ◌^◌, ℕ, None, Some, IfOk, length};
 ghost use Rattle.std.specs.Option.{option_or};
 ghost use Rattle.amo_sets.specs.Lists.{numbered, put};
@@ -29,7 +29,7 @@ fn note_claims(claimers: &mut [Option<u32>], worker: u32, claims: &[u32])
     }
 }
 
-/// The least worker that has each of so many jobs in its list.
+/// Returns the least worker that has each of so many jobs in its list.
 #[tactic(auto, using(crate::proofs::Claims::claims_noted))]
 pub(crate) fn claimers_of(
     alloc: Global,

@@ -1,5 +1,11 @@
-//! A run of a plan, from the plan's bytes to the text of what came of it: its jobs are executed in
-//! threads, block by block.
+//! A run of a plan in threads, from the plan's bytes to the text of the outcome.
+//!
+//! Start at [`run_plan`]. It executes the jobs of the plan block by block.
+//!
+//! | here | in the glossary |
+//! |---|---|
+//! | p | a worker |
+//! | b, j | a block, a job |
 #![tactic(auto)]
 
 mod block_done;

@@ -61,10 +61,14 @@ fn push_run(
     Ok(())
 }
 
-/// The text of what came of a run of a plan: its numbers, how each worker went, what became of each
-/// job, and how much was performed. A job is done by the least worker that has its block among its
-/// dones and an output of it, else claimed by the least worker that has its block among its claims,
-/// else free. The only error is out of memory.
+/// Returns the text of the outcome of a plan: its numbers, the end of each worker, the fate of each
+/// job, and the counts of performances. A job is done by the least worker that has its block among
+/// its dones and an output of it. Otherwise it is claimed by the least worker that has its block
+/// among its claims, or else free.
+///
+/// # Errors
+///
+/// `AllocError` if there was no memory.
 pub fn outcome_text(
     alloc: Global,
     heads: &Heads,

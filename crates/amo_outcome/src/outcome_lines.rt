@@ -11,7 +11,7 @@ use amo_plan::{Answer, Text};
 use amo_render::push_escaped;
 use std::alloc::{AllocError, Global};
 
-/// How a worker went, in one word.
+/// Returns how a worker went, in one word.
 fn end_word(end: End) -> &'static str
     ensures { result.now ≡ end_word end }
 {
@@ -22,7 +22,7 @@ fn end_word(end: End) -> &'static str
     }
 }
 
-/// How many steps it took.
+/// Returns how many steps it took.
 fn end_steps(end: End) -> u64
     ensures { result ≡ end_steps end }
 {
@@ -134,7 +134,7 @@ fn push_free(out: &mut String, job: usize, name: &str) -> Result<(), AllocError>
     writeln!(out, "job {job} free {name}")
 }
 
-/// What is noted at a place, if anything is.
+/// Returns the note at a place, if there is one.
 fn noted<T: Copy>(items: &[Option<T>], place: usize) -> Option<T>
     ensures { result ≡ get_or items.now place None }
 {
@@ -144,7 +144,7 @@ fn noted<T: Copy>(items: &[Option<T>], place: usize) -> Option<T>
     }
 }
 
-/// What is noted of the blocks of an outcome: of each the output that says that it is done, and the
+/// The notes on the blocks of an outcome: for each the output that shows that it is done, and the
 /// worker that has claimed it.
 #[derive(Drop)]
 pub(crate) struct Notes<'a> {

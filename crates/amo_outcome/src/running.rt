@@ -20,14 +20,14 @@ use std::alloc::{AllocError, Global};
 use std::sync::Wait;
 use std::thread::Threads;
 
-/// What came of a run.
+/// The result of a run.
 #[derive(Drop)]
 struct Executed {
     outcome: Outcome<Block, Vec<Answer>>,
     started: Started,
 }
 
-/// The budgets of a plan. The only error is out of memory.
+/// Returns the budgets of a plan. Fails if there was no memory.
 #[tactic(auto, using(crate::proofs::Budgets::only_memory))]
 fn stops_of(alloc: Global, heads: &Heads) -> Result<StopPlan, AllocError>
     requires count { length heads.now.budgets ≡ heads.now.givens.workers }
@@ -42,7 +42,8 @@ fn stops_of(alloc: Global, heads: &Heads) -> Result<StopPlan, AllocError>
     }
 }
 
-/// Executes the blocks of a plan in threads, each with its budget. The only error is out of memory.
+/// Executes the blocks of a plan in threads, each worker with its budget. Fails if there was no
+/// memory.
 fn run_blocks<R: Threads + Wait + Sync>(
     rt: &R,
     alloc: Global,
@@ -69,9 +70,8 @@ fn run_blocks<R: Threads + Wait + Sync>(
     }
 }
 
-/// Executes the jobs of a plan in threads. The text of what came of it, and whether each thread was
-/// started; where one wasn't, the text is that of what the others did. The only error is out of
-/// memory.
+/// Executes the jobs of a plan in threads. Returns the text of the outcome, and whether each thread
+/// was started. If one wasn't, the text is on the work of the others. Fails if there was no memory.
 fn run_text<R: Threads + Wait + Sync>(
     rt: &R,
     alloc: Global,
@@ -88,10 +88,14 @@ fn run_text<R: Threads + Wait + Sync>(
     Ok((text, executed.started))
 }
 
-/// Reads a plan to the end of the reader, executes its jobs in threads, and writes the text of what
-/// came of it and nothing else. Answers whether each thread was started; where one wasn't, the text
-/// is that of what the others did. Neither stream may have failed. What each fault leaves is said
-/// at `ReplayFault`. May wait.
+/// Reads a plan to the end of the reader, executes its jobs in threads, and writes the text of the
+/// outcome and nothing else. Returns whether each thread was started. If one wasn't, the text is on
+/// the work of the others. Neither stream may have failed. It may wait.
+///
+/// # Errors
+///
+/// The fault of the read, the plan or the write. `ReplayFault` states for each fault which state it
+/// leaves.
 #[tactic(auto, using(crate::proofs::RunTexts::writes, crate::proofs::RunTexts::writes_front))]
 pub fn run_plan<R: Threads + Wait + Sync, S: Source, W: Sink>(
     rt: &R,

@@ -1,6 +1,6 @@
-//! Whether a run's threads were started.
+//! The start of a run's threads.
 
-/// Whether a run's threads were started.
+/// The start of a run's threads.
 #[derive(Clone, Copy, Debug, PartialEq, Eq)]
 pub enum Started {
     /// Each of them.

@@ -40,9 +40,9 @@ enum Refusal {
     Bank,
 }
 
-/// Serves a day on these streams and files, and answers the program's exit status: 0 where all of
-/// its report was written, else 1, after a line of the fault to `err`. That this line can't be
-/// written changes nothing.
+/// Serves a day on these streams and files, and returns the program's exit status. It is 0 if all
+/// of its report was written. Otherwise it is 1, after a line of the fault to `err`. If this line
+/// can't be written, nothing else changes.
 fn serve_streams<
     B: Read,
     D: Device + Drop + Send,
@@ -74,7 +74,7 @@ fn has_streams(rt: HostRuntime) -> bool {
         .all(|path| fs::symlink_metadata(&rt, path).is_ok())
 }
 
-/// The two words behind the program's name.
+/// Returns the two words after the program's name.
 fn two_words(rt: HostRuntime) -> Option<(String, String)> {
     let mut words = env::args(&rt).ok()?;
     let _ = words.next()?;
@@ -86,7 +86,7 @@ fn two_words(rt: HostRuntime) -> Option<(String, String)> {
     Some((journal, bank))
 }
 
-/// The folder of a path.
+/// Returns the folder of a path.
 fn folder_of(path: &str) -> &str {
     match path.rsplit_once('/') {
         Some(("", _)) => "/",
@@ -95,14 +95,14 @@ fn folder_of(path: &str) -> &str {
     }
 }
 
-/// Opens the journal, which is made where there is none, and takes its lock, which is kept until
-/// the process ends.
+/// Opens the journal, and makes it if it is missing. Takes its lock, which is kept until the
+/// process ends.
 fn open_journal(rt: HostRuntime, path: &str) -> Result<FileDevice, Refusal> {
     let file = create_private(&rt, path).map_err(|_| Refusal::Journal)?;
     if !try_exclusive(&file).map_err(|_| Refusal::Journal)? {
         return Err(Refusal::Held);
     }
-    // Whoever made the file may have been killed before its name was on the disk.
+    // A process that made the file may have been killed before the file's name was on the disk.
     sync_folder(&rt, folder_of(path)).map_err(|_| Refusal::Journal)?;
     FileDevice::open(rt.alloc(), file).map_err(|_| Refusal::Journal)
 }
@@ -114,7 +114,7 @@ fn open_bank(rt: HostRuntime, path: &str) -> Result<File, Refusal> {
     options.open(&rt, path).map_err(|_| Refusal::Bank)
 }
 
-/// The files that the words name.
+/// Returns the files that the words name.
 fn open_files(rt: HostRuntime) -> Result<(FileDevice, File), Refusal> {
     if !has_streams(rt) {
         return Err(Refusal::Streams);

@@ -32,8 +32,7 @@ impl Model for Block {
 }
 
 impl Block {
-    /// Returns a block of these tasks. The only error is out of memory, for the room of the
-    /// results.
+    /// Returns a block of these tasks. Fails if there was no memory for the results.
     fn new(alloc: Global, tasks: Vec<Task>) -> Result<Block, AllocError>
         ensures { IfOk result (λ b. b ≡ tasks.items) }
     {

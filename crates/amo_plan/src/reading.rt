@@ -1,4 +1,4 @@
-//! How a plan is read.
+//! Reading of a plan.
 ghost use Rattle.std.specs.Prelude.{◌≡◌, ◌<◌, true, map, length, Err, IfOk, IfSome};
 ghost use Rattle.std.specs.Int.{div_ceil};
 ghost use Rattle.toml.specs.View.{table_view};
@@ -35,7 +35,7 @@ fn document(alloc: Global, bytes: &[u8]) -> Result<Table, PlanFault>
     }
 }
 
-/// The givens of so many jobs in blocks, or their fault.
+/// Returns the givens of so many jobs in blocks, or their fault.
 fn block_givens(jobs: usize, block: u32, workers: u64, beta: u64) -> Result<Givens, PlanFault>
     requires { 0 < block }
     ensures { Gives (λ g. g) result (or_bad_givens (givens_of (div_ceil jobs block) workers beta)) }

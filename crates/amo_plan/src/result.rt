@@ -6,7 +6,7 @@ ghost use Rattle.amo_plan.specs.Results.{fits, result_text};
 use crate::task::Task;
 use std::alloc::{AllocError, Global};
 
-/// Returns the sum in decimal digits. The only error is out of memory.
+/// Returns the sum in decimal digits. Fails if there was no memory.
 fn sum_text(alloc: Global, numbers: &[u64]) -> Result<String, AllocError>
     requires { sum numbers.now ≤ 18446744073709551615 }
     ensures { IfOk result (λ s. string_bytes s ≡ decimal (sum numbers.now)) }

@@ -1,4 +1,4 @@
-//! How a schedule is read.
+//! Reading of a schedule.
 ghost use Rattle.std.specs.Prelude.{◌≡◌, ◌++◌, map, replicate, IfOk, OnOk};
 ghost use Rattle.amo_givens.specs.declared.moves.Move.TheVariants.{Turn};
 ghost use Rattle.amo_plan.specs.Passing.{Gives};
@@ -80,7 +80,7 @@ fn moves(alloc: Global, words: &[ScheduleWord]) -> Result<Vec<Move>, PlanFault>
     Ok(moves)
 }
 
-/// The moves of a text, of the workers up to so many.
+/// Returns the moves of a text, of the workers up to so many.
 #[tactic(auto, unfolding(crate::specs::Schedule::read_schedule))]
 pub(crate) fn read_schedule(
     alloc: Global,

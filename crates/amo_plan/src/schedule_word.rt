@@ -108,7 +108,7 @@ fn read_word(version: u32, text: &[u8]) -> Option<ScheduleWord>
     read_turns(text)
 }
 
-/// The word in this place, of the workers up to so many.
+/// Returns the word in this place, of the workers up to so many.
 #[tactic(auto, unfolding(crate::specs::Schedule::word_at))]
 pub(crate) fn word_at(
     version: u32,

@@ -54,7 +54,8 @@ fn add_loads(items: &mut Vec<Item>, givens: Givens, p: u32, q: u32)
     }
 }
 
-/// Adds loads of the rows of the other workers after q, each after the entries that the machine has read.
+/// Adds loads of the rows of the other workers after q, each after the entries that the machine has
+/// read.
 fn add_rows(items: &mut Vec<Item>, local: &Local, q: u32)
     requires within { q ≤ local.now.givens.workers }
     requires room { length items.old.items + local.now.givens.workers ≤ vec_capacity items.old }

@@ -23,26 +23,27 @@ ghost use Rattle.std.specs.Prelude.{◌≡◌, ◌++◌, ◌∷◌, ℕ, List, S
 
 use amo_clearance_safety::laws::lines_are_performed_once_by_journals_alone;
 
-/// Each line is performed at most once, in every run of processes of `work` and operators' commands
-/// that keep their protocols. The processes and commands may be killed in any call, and started
-/// again. Calls may fail, and the machine may stop. We assume that the kernel, the disk, the
-/// runners and the operators keep the rules of `Runs` and `Steps`.
+/// States that each line is performed at most once, in every run of processes of `work` and
+/// operators' commands that keep their protocols. The processes and commands may be killed in any
+/// call, and started again. Calls may fail, and the machine may stop. We assume that the kernel,
+/// the disk, the runners and the operators keep the rules of `Runs` and `Steps`.
 pub fn programs_and_commands_perform_each_line_at_most_once()
     ensures { (steps : List Step) → IsRunOfAll steps → AreDistinct (map (λ h. h.line) (machine_of steps).world.performed) }
 {
     lines_are_performed_once_by_journals_alone();
 }
 
-/// Each run of processes of `work` and operators' commands is a run of the model by journals alone,
-/// in which the same attempts perform their lines. So what the short theorem of that model says of
-/// its runs holds for the programs.
+/// States that each run of processes of `work` and operators' commands is a run of the model by
+/// journals alone, in which the same attempts perform their lines. So what the short theorem of
+/// that model says of its runs holds for the programs.
 pub fn programs_and_commands_run_by_journals_alone()
     ensures { (steps : List Step) → IsRunOfAll steps → (es : List ModelEvent) × IsModelRun Clearance MAX_WORKERS es × ((site_of es).performed ≡ (machine_of steps).world.performed) }
 {}
 
-/// An attempt that a command finds final is final on this machine: no process may hand it over, no
-/// runner has it, and nothing of its command is left. If the command records that the attempt is in
-/// doubt, it stays so in all that follows. A request that was sent before may still arrive.
+/// States that an attempt that a command finds final is final on this machine. No process may hand
+/// it over, no runner has it, and nothing of its command is left. If the command records that the
+/// attempt is in doubt, it stays so in all that follows. A request that was sent before may still
+/// arrive.
 pub fn listed_lines_are_final_here()
     ensures found { (steps : List Step) (process : ℕ) (o : Operator) (command : Command) (known : Known) (left : List AttemptId)
         → IsRunOfAll steps → (machine_of steps).operator process ≡ Some o → o.phase ≡ Probes command known left
@@ -52,11 +53,11 @@ pub fn listed_lines_are_final_here()
         → IsFinalHere (machine_of (steps ++ Records process (PutDoubt i time) ∷ more)) i.worker i.serial }
 {}
 
-/// An attempt whose outcome is on the disk, in the journal of its worker, is final on this machine.
-/// An outcome may also be written and not yet be on the disk. Then no runner has the attempt, and
-/// nothing of its command is left. Its process may still be in the call by which it gives the
-/// attempt up. For this theorem alone, we also assume the rule `RunnersEnd`: a runner reports an
-/// outcome only after the attempt has ended.
+/// States that an attempt whose outcome is on the disk, in the journal of its worker, is final on
+/// this machine. An outcome may also be written and not yet be on the disk. Then no runner has the
+/// attempt, and nothing of its command is left. Its process may still be in the call by which it
+/// gives the attempt up. For this theorem alone, we also assume the rule `RunnersEnd`: a runner
+/// reports an outcome only after the attempt has ended.
 pub fn recorded_outcomes_are_final_here()
     ensures kept { (steps : List Step) (worker serial : ℕ) (outcome : Outcome) (text : List ℕ) → IsRunOfAll steps → RunnersEnd steps
         → IsOneOf ((machine_of steps).world.logs (Journal worker)).kept text
@@ -66,50 +67,51 @@ pub fn recorded_outcomes_are_final_here()
         → IsOneOf (entries_of (append_in text)) (Answered serial outcome) → HasEndedHere (machine_of steps) worker serial }
 {}
 
-/// There is a run in which runners keep that rule, and in which an outcome is recorded.
+/// States that there is a run in which runners keep that rule, and in which an outcome is recorded.
 pub fn an_outcome_is_recorded()
     ensures { (steps : List Step) × IsRunOfAll steps × RunnersEnd steps
         × (((machine_of steps).world.logs (Journal 1)).kept ≡ codes "intent 1 1 0" ∷ codes "done 1 0 0" ∷ []) }
 {}
 
-/// If a runner reports an outcome of an attempt that it still has, the outcome is recorded, and the
-/// attempt is not final.
+/// States that if a runner reports an outcome of an attempt that it still has, the outcome is
+/// recorded, and the attempt is not final.
 pub fn without_runners_that_end_an_attempt_is_left()
     ensures { (steps : List Step) × IsRunOfAll steps
         × (((machine_of steps).world.logs (Journal 1)).kept ≡ codes "intent 1 1 0" ∷ codes "done 1 0 0" ∷ [])
         × (map (λ h. h.serial) (machine_of steps).waiting ≡ 1 ∷ []) }
 {}
 
-/// Each line is performed at most once, in every run of processes of `work` alone. Here operators'
-/// commands are events: a doubt is recorded while no process has the lock on the journal. An
-/// operator answers `not-done` only to an attempt that is over. We assume that the kernel, the
-/// disk, the runners and the operators keep the rules of `Runs`.
+/// States that each line is performed at most once, in every run of processes of `work` alone. Here
+/// operators' commands are events: a doubt is recorded while no process has the lock on the
+/// journal. An operator answers `not-done` only to an attempt that is over. We assume that the
+/// kernel, the disk, the runners and the operators keep the rules of `Runs`.
 pub fn programs_perform_each_line_at_most_once()
     ensures { (es : List Event) → IsRun es → AreDistinct (map (λ h. h.line) (world_of es).performed) }
 {
     lines_are_performed_once_by_journals_alone();
 }
 
-/// Each run of processes of `work` without operators' commands is a run of both, with the same
-/// world.
+/// States that each run of processes of `work` without operators' commands is a run of both, with
+/// the same world.
 pub fn workers_run_without_commands()
     ensures { (es : List Event) → IsRun es → AreOfNoCommand es → IsRunOfAll (map Happens es) × ((machine_of (map Happens es)).world ≡ world_of es) }
 {}
 
-/// There is a run in which a line is performed.
+/// States that there is a run in which a line is performed.
 pub fn a_line_is_performed()
     ensures { (es : List Event) × IsRun es × (map (λ h. h.line) (world_of es).performed ≡ 1 ∷ []) }
 {}
 
-/// The machine stops while an intent is appended, and takes it; then the line is performed.
+/// Shows a run in which the machine stops while an intent is appended, and takes it. Then the line
+/// is performed.
 pub fn a_line_is_performed_after_a_stop_in_an_append()
     ensures { (before : List Event) × (after : List Event)
         × IsRun (before ++ Writes 1 (Put (Intent 1 1 0)) ∷ Stops (λ log. 0) ∷ after)
         × (map (λ h. h.line) (world_of (before ++ Writes 1 (Put (Intent 1 1 0)) ∷ Stops (λ log. 0) ∷ after)).performed ≡ 1 ∷ []) }
 {}
 
-/// The machine stops while an intent is appended, and leaves it. The next process asks for it, and
-/// performs the line by another attempt.
+/// Shows a run in which the machine stops while an intent is appended, and leaves it. The next
+/// process asks for it, and performs the line by another attempt.
 pub fn a_line_is_performed_after_a_stop_that_leaves_an_append()
     ensures { (before : List Event) × (after : List Event)
         × IsRun (before ++ Writes 1 (Put (Intent 1 1 0)) ∷ Stops (λ log. 1) ∷ after)
@@ -117,104 +119,108 @@ pub fn a_line_is_performed_after_a_stop_that_leaves_an_append()
         × (map (λ h. h.line) (world_of (before ++ Writes 1 (Put (Intent 1 1 0)) ∷ Stops (λ log. 1) ∷ after)).performed ≡ 1 ∷ []) }
 {}
 
-/// A process dies once its attempt is handed over. The next one learns from the runner that it is
-/// done, and records that.
+/// Shows a run in which a process dies once its attempt is handed over. The next one learns from
+/// the runner that it is done, and records that.
 pub fn an_attempt_of_a_dead_process_is_asked_for()
     ensures { (es : List Event) × IsRun es × (map (λ h. h.line) (world_of es).performed ≡ 1 ∷ [])
         × (((world_of es).logs (Journal 1)).kept ≡ codes "intent 1 1 0" ∷ codes "done 1 0 0" ∷ []) }
 {}
 
-/// An attempt is handed over and does nothing. Its process dies, and an operator answers that it
-/// is not done. Then another worker performs the line.
+/// Shows a run in which an attempt is handed over and does nothing. Its process dies, and an
+/// operator answers that it is not done. Then another worker performs the line.
 pub fn an_attempt_that_did_nothing_is_tried_again()
     ensures { (es : List Event) × IsRun es × (map (λ h. h.line) (world_of es).handed ≡ 1 ∷ 1 ∷ []) × (map (λ h. h.line) (world_of es).performed ≡ 1 ∷ []) }
 {}
 
-/// An attempt is handed over, and its runner replies that it was not started. Then another worker
-/// performs the line.
+/// Shows a run in which an attempt is handed over, and its runner replies that it was not started.
+/// Then another worker performs the line.
 pub fn an_attempt_that_was_not_started_is_tried_again()
     ensures { (es : List Event) × IsRun es × (map (λ h. h.line) (world_of es).performed ≡ 1 ∷ []) × (map (λ h. h.line) (world_of es).handed ≡ 1 ∷ 1 ∷ []) }
 {}
 
-/// If two processes get the lock of one journal, they perform a line twice.
+/// States that if two processes get the lock of one journal, they perform a line twice.
 pub fn without_locks_that_exclude_a_line_is_performed_twice()
     ensures { (es : List Event) × IsRunWithout LocksExclude es × (map (λ h. h.line) (world_of es).performed ≡ 1 ∷ 1 ∷ []) }
 {}
 
-/// If a read misses what is kept of a journal, two workers perform a line twice.
+/// States that if a read misses what is kept of a journal, two workers perform a line twice.
 pub fn without_current_reads_a_line_is_performed_twice()
     ensures { (es : List Event) × IsRunWithout ReadsAreCurrent es × (map (λ h. h.line) (world_of es).performed ≡ 1 ∷ 1 ∷ []) }
 {}
 
-/// If a recovery takes away what was kept of a journal, two workers perform a line twice.
+/// States that if a recovery takes away what was kept of a journal, two workers perform a line
+/// twice.
 pub fn without_kept_appends_a_line_is_performed_twice()
     ensures { (es : List Event) × IsRunWithout AppendsAreKept es × (map (λ h. h.line) (world_of es).performed ≡ 1 ∷ 1 ∷ []) }
 {}
 
-/// If a process learns that its intent is on the disk, although it was not written, two workers
-/// perform a line twice.
+/// States that if a process learns that its intent is on the disk, although it was not written, two
+/// workers perform a line twice.
 pub fn without_written_appends_a_line_is_performed_twice()
     ensures { (es : List Event) × IsRunWithout AppendsAreWritten es × (map (λ h. h.line) (world_of es).performed ≡ 1 ∷ 1 ∷ []) }
 {}
 
-/// If a command recovers the journal of a living process, two workers perform a line twice.
+/// States that if a command recovers the journal of a living process, two workers perform a line
+/// twice.
 pub fn without_commands_that_lock_a_line_is_performed_twice()
     ensures { (es : List Event) × IsRunWithout CommandsLock es × (map (λ h. h.line) (world_of es).performed ≡ 1 ∷ 1 ∷ []) }
 {}
 
-/// If a runner replies that an attempt was not started, and performs it then, a line is performed
-/// twice.
+/// States that if a runner replies that an attempt was not started, and performs it then, a line is
+/// performed twice.
 pub fn without_honest_runners_a_line_is_performed_twice()
     ensures { (es : List Event) × IsRunWithout RunnersAreHonest es × (map (λ h. h.line) (world_of es).performed ≡ 1 ∷ 1 ∷ []) }
 {}
 
-/// If a runner replies that an attempt was not started while it is under way, a line is performed
-/// twice.
+/// States that if a runner replies that an attempt was not started while it is under way, a line is
+/// performed twice.
 pub fn if_live_attempts_are_denied_a_line_is_performed_twice()
     ensures { (es : List Event) × IsRunWithout LiveAreNotDenied es × (map (λ h. h.line) (world_of es).performed ≡ 1 ∷ 1 ∷ []) }
 {}
 
-/// If a runner replies that an attempt was not started that has performed its line, the line is
-/// performed twice.
+/// States that if a runner replies that an attempt was not started that has performed its line, the
+/// line is performed twice.
 pub fn if_performed_attempts_are_denied_a_line_is_performed_twice()
     ensures { (es : List Event) × IsRunWithout PerformedAreNotDenied es × (map (λ h. h.line) (world_of es).performed ≡ 1 ∷ 1 ∷ []) }
 {}
 
-/// If a line comes to a runner again after an operator has answered its attempt, the line is
-/// performed twice.
+/// States that if a line comes to a runner again after an operator has answered its attempt, the
+/// line is performed twice.
 pub fn without_lines_that_come_once_a_line_is_performed_twice()
     ensures { (es : List Event) × IsRunWithout LinesComeOnce es × (map (λ h. h.line) (world_of es).performed ≡ 1 ∷ 1 ∷ []) }
 {}
 
-/// If an attempt performs its line again, the line is performed twice.
+/// States that if an attempt performs its line again, the line is performed twice.
 pub fn without_attempts_that_perform_once_a_line_is_performed_twice()
     ensures { (es : List Event) × IsRunWithout AttemptsPerformOnce es × (map (λ h. h.line) (world_of es).performed ≡ 1 ∷ 1 ∷ []) }
 {}
 
-/// If an operator answers `not-done` to an attempt that a runner has, a line is performed twice.
+/// States that if an operator answers `not-done` to an attempt that a runner has, a line is
+/// performed twice.
 pub fn without_truthful_operators_a_line_is_performed_twice()
     ensures { (es : List Event) × IsRunWithout OperatorsAreTruthful es × (map (λ h. h.line) (world_of es).performed ≡ 1 ∷ 1 ∷ []) }
 {}
 
-/// If an operator answers `not-done` to an attempt before its intent is on the disk, a line is
-/// performed twice.
+/// States that if an operator answers `not-done` to an attempt before its intent is on the disk, a
+/// line is performed twice.
 pub fn if_attempts_without_intents_are_answered_a_line_is_performed_twice()
     ensures { (es : List Event) × IsRunWithout AnswersFollowIntents es × (map (λ h. h.line) (world_of es).performed ≡ 1 ∷ 1 ∷ []) }
 {}
 
-/// If an operator answers `not-done` to an attempt that a process is about to hand over, a line
-/// is performed twice.
+/// States that if an operator answers `not-done` to an attempt that a process is about to hand
+/// over, a line is performed twice.
 pub fn if_held_attempts_are_answered_a_line_is_performed_twice()
     ensures { (es : List Event) × IsRunWithout HeldAreNotAnswered es × (map (λ h. h.line) (world_of es).performed ≡ 1 ∷ 1 ∷ []) }
 {}
 
-/// If an operator answers `not-done` to an attempt that is under way, a line is performed twice.
+/// States that if an operator answers `not-done` to an attempt that is under way, a line is
+/// performed twice.
 pub fn if_live_attempts_are_answered_a_line_is_performed_twice()
     ensures { (es : List Event) × IsRunWithout LiveAreNotAnswered es × (map (λ h. h.line) (world_of es).performed ≡ 1 ∷ 1 ∷ []) }
 {}
 
-/// If an operator answers `not-done` to an attempt that has performed its line, the line is
-/// performed twice.
+/// States that if an operator answers `not-done` to an attempt that has performed its line, the
+/// line is performed twice.
 pub fn if_performed_attempts_are_answered_a_line_is_performed_twice()
     ensures { (es : List Event) × IsRunWithout PerformedAreNotAnswered es × (map (λ h. h.line) (world_of es).performed ≡ 1 ∷ 1 ∷ []) }
 {}

@@ -1,4 +1,4 @@
--- What is said in answer is heard, and what is heard was said so.
+-- The text of each reply is read as that reply, and a reply that is read was printed so.
 use Rattle.std.proofs.Common.{◌≡◌, ◌≢◌, inl, inr, ⊎_elim, ℕ, ◌^◌, ◌<◌, Bool, true, cond, List, ◌∷◌, ◌++◌, Option, Some, None, refl, sym, ap, subst, ◌∙◌, arith}
 use Rattle.std.specs.Prelude.{codes, option_and_then, unwrap_or, IfSome}
 use Rattle.std.specs.Fmt.{decimal}
@@ -22,7 +22,7 @@ use Rattle.amo_run_log.proofs.Readings.{none_some, some_is}
 use Rattle.amo_run_log.proofs.Words.{word_reads, either_word, decimal_lacks, AreWords, words, split, and_then_some, blank_and, either_way, ascii_by_test}
 use Rattle.amo_protocol.specs.Replies.{word_of, text_of_answer, text_of, FitsAnswer, Fits, way_in, number_and_way_in, code_and_way_in, reply_of_word, said_in, reply_in}
 
--- what is said is heard
+-- the printed word is read
 
 way_reads : (way : Way) → way_in (word_of way) ≡ Some way
 way_reads Go = refl
@@ -78,7 +78,7 @@ reply_reads (Running s way) text fits said = ap said_in (sym (some_is said)) ∙
 reply_reads Garbled text fits said = absurd (none_some said)
 reply_reads Closed text fits said = absurd (none_some said)
 
--- what is heard was said so
+-- the word that is read was printed so
 
 abbrev IsSaid : List ℕ → Reply → Type 0
 IsSaid text reply = (text_of reply ≡ Some text) × Fits reply
@@ -127,12 +127,12 @@ word_is w r word e is said =
     let same : w ≡ word = (bytes_eq-Decides w word).0 is in
     subst (λ (v : List ℕ). IsSaid (v ++ 32 ∷ r) e) (sym same) said
 
--- what was read of what stands behind the word is what is said there
+-- the parts after the word, as they are read, are those that were printed
 with_parts : {N : Type 0} (word r : List ℕ) (print : N → List ℕ) (reply : N → Reply) (n : N) (e : Reply) → print n ≡ r → Some (reply n) ≡ Some e → IsSaid (word ++ 32 ∷ print n) (reply n) → IsSaid (word ++ 32 ∷ r) e
 with_parts word r print reply n e printed same said =
     subst (λ (x : Reply). IsSaid (word ++ 32 ∷ r) x) (some_is same) (subst (λ (x : List ℕ). IsSaid (word ++ 32 ∷ x) (reply n)) printed said)
 
--- a number, a code and a way, behind the word that was tested
+-- a number, a code and a way, after the word that was tested
 coded : (w word r : List ℕ) (answer : ℕ → JobResult) (e : Reply) → bytes_eq w word ≡ true → option_and_then (λ (n : ℕ × ℕ × Way). Some (Answered n.0 (answer n.1) n.2)) (code_and_way_in r) ≡ Some e
     → ((s c : ℕ) (way : Way) → s < 2 ^ 64 → c < 2 ^ 8 → IsSaid (word ++ 32 ∷ (decimal s ++ 32 ∷ (decimal c ++ 32 ∷ word_of way))) (Answered s (answer c) way))
     → IsSaid (w ++ 32 ∷ r) e
@@ -141,7 +141,7 @@ coded w word r answer e is h says =
     let (printed, fits, small) = code_and_way_printed r n read in
     word_is w r word e is (with_parts word r (λ (m : ℕ × ℕ × Way). decimal m.0 ++ 32 ∷ (decimal m.1 ++ 32 ∷ word_of m.2)) (λ m. Answered m.0 (answer m.1) m.2) n e printed same (says n.0 n.1 n.2 fits small))
 
--- a number and a way behind it
+-- a number and a way after it
 numbered : (w word r : List ℕ) (reply : ℕ → Way → Reply) (e : Reply) → bytes_eq w word ≡ true → option_and_then (λ (n : ℕ × Way). Some (reply n.0 n.1)) (number_and_way_in r) ≡ Some e
     → ((s : ℕ) (way : Way) → s < 2 ^ 64 → IsSaid (word ++ 32 ∷ (decimal s ++ 32 ∷ word_of way)) (reply s way))
     → IsSaid (w ++ 32 ∷ r) e
@@ -195,7 +195,7 @@ somebody text r is closed = not_closed (said_in text) refl (sym closed ∙ is)
     not_closed None e h = cc
     not_closed (Some reply) e h = none_some (ap text_of h ∙ (is_said text reply e).0)
 
--- what is no text is no answer
+-- bytes that are not UTF-8 are an invalid reply
 
 ascii_way : (way : Way) → IsAscii (word_of way)
 ascii_way Go = ascii_by_test (codes "go") refl

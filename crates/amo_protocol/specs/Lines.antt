@@ -1,4 +1,5 @@
--- What a worker by lines says and hears: each thing that it tries is a line, and a line answers it.
+-- The lines of a worker that has everything done by lines: a line for each try, and a line in
+-- reply.
 use Rattle.std.specs.Prelude.{ℕ, List, ◌++◌, codes, Bool, true, false, Option, Some, None, if◌then◌else◌}
 use Rattle.std.specs.Fmt.{decimal}
 use Rattle.std.specs.Str.{bytes_eq}
@@ -13,7 +14,7 @@ use Rattle.amo_driver.specs.declared.model.Try.{Try}
 use Rattle.amo_driver.specs.declared.model.Try.TheVariants.{Load, Store, Find, Intend, Clear, Perform, Note, Ask}
 use Rattle.amo_protocol.specs.Replies.{reply_in}
 
--- words and a number behind them, one blank between, and the end of the line
+-- words, a blank, a number, and the end of the line
 abbrev pub one : List ℕ → ℕ → List ℕ
 one words a = words ++ (codes " " ++ (decimal a ++ codes "\n"))
 
@@ -58,7 +59,7 @@ abbrev pub clear_heard : Option (List ℕ) → Option Bool
 clear_heard (Some line) = clear_in line
 clear_heard None = None
 
--- what came in answer to a job; where no line came, nobody is there any more
+-- the reply to a job; if no line came, the partner is gone
 abbrev pub reply_heard : Option (List ℕ) → Reply
 reply_heard (Some line) = reply_in line
 reply_heard None = Closed
@@ -73,7 +74,8 @@ abbrev pub cleared : (serial job : ℕ) → Option Bool → Deed
 cleared serial job (Some clear) = Cleared serial job clear
 cleared serial job None = Fell (Clear serial job)
 
--- the deed that comes of what was tried, by the line that answered it, without its end; where none came, or it was cut, there is none
+-- the deed of a try, by the line in reply, without its end; without a whole line in reply nothing
+-- was done
 abbrev pub deed_of : Try → Option (List ℕ) → Deed
 deed_of (Load word) heard = loaded word (number_heard heard)
 deed_of (Store word value) heard = if is_agreed heard then Stored word value else Fell (Store word value)

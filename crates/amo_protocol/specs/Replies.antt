@@ -1,4 +1,5 @@
--- What a partner says in answer, a line each: what became of an intent, or that its job still runs, and whether the worker is to go on.
+-- The replies of a partner, a line each: the result of an intent, or that its job still runs, and
+-- the wish whether the worker goes on.
 use Rattle.std.specs.Prelude.{ℕ, ◌<◌, ◌^◌, List, ◌++◌, codes, Option, Some, None, option_and_then, unwrap_or, if◌then◌else◌}
 use Rattle.std.specs.Fmt.{decimal}
 use Rattle.std.specs.Str.{bytes_eq}
@@ -60,7 +61,7 @@ code_and_way_in text =
     then option_and_then (λ n. option_and_then (λ cw. option_and_then (λ code. Some (n, code, cw.1)) (code_in cw.0)) (number_and_way_in (other_words text))) (number_in (first_word text))
     else None
 
--- the reply of this word and what stands behind it
+-- the reply of this word and the bytes after it
 abbrev pub reply_of_word : List ℕ → List ℕ → Option Reply
 reply_of_word word rest =
     if bytes_eq word (codes "done") then option_and_then (λ n. Some (Answered n.0 (Done n.1) n.2)) (code_and_way_in rest)

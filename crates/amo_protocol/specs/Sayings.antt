@@ -1,4 +1,4 @@
--- What a worker says to its partner, a line each.
+-- The messages of a worker to its partner, a line each.
 use Rattle.std.specs.Prelude.{◌≡◌, ℕ, List, [], ◌∷◌, ◌++◌, codes}
 use Rattle.std.specs.Fmt.{decimal}
 use Rattle.amo_journal.specs.Texts.{IsOneLine}

@@ -1,7 +1,13 @@
-//! The wire format between a worker and its runner, one line a message, and the driver's world over
-//! such lines alone. Start with `perform_text` and `reply_in`; `Lines` is for a runner that keeps
-//! registers and journal too. The theorems stand in `laws`: a message is one line, and different
-//! messages are different lines.
+//! The wire format between a worker and its runner, one line a message.
+//!
+//! Start at [`perform_text`] and [`reply_in`]. [`Lines`] is for a runner that keeps registers and
+//! journal too: it is the driver's outside over such lines alone. The theorems stand in the module
+//! [`laws`]: a message is one line, and different messages are different lines.
+//!
+//! | here | in the glossary |
+//! |---|---|
+//! | partner | runner |
+//! | words | registers |
 #![tactic(auto)]
 
 pub mod laws;

@@ -7,25 +7,25 @@ use crate::wire::Wire;
 use amo_decimal::number_of_bytes;
 use amo_driver::{Failed, JobResult, Outside, Reply, Try};
 
-/// The words, the journal and the partner of a worker, all behind a wire.
+/// The words, the journal and the partner of a worker, all at the other end of a wire.
 #[derive(Drop)]
 pub struct Lines<W: Wire> {
     /// Where its lines go.
     pub wire: W,
-    /// The line that came last, without its end; none where nothing more came, or a line that was
+    /// The line that came last, without its end. `None` if nothing more came, or a line that was
     /// cut.
     pub said: Option<Vec<u8>>,
 }
 
 impl<W: Wire> Lines<W> {
-    /// A worker's outside over a wire to which nothing was said.
+    /// Returns a worker's outside over a wire to which nothing was said.
     pub fn new(wire: W) -> Lines<W>
         ensures { result.wire ≡ wire }
     {
         Lines { wire, said: None }
     }
 
-    /// What a line says that may only agree.
+    /// Returns an error unless the line agrees, as it must.
     fn agreed(&mut self, heard: Option<Vec<u8>>) -> Result<(), Failed>
         ensures wire { self.new.wire ≡ self.old.wire }
         ensures agrees { OnOk result (is_agreed (option_map (λ line. line.items) heard) ≡ true) }

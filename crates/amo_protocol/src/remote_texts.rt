@@ -1,12 +1,16 @@
-//! What a worker says of each thing that it tries.
+//! The lines of a worker that has everything done by lines.
 ghost use Rattle.std.specs.Prelude.{◌≡◌, IfOk};
 ghost use Rattle.amo_protocol.specs.Lines.{note_text, text_of};
 
 use amo_driver::{JobResult, Try};
 use std::alloc::{AllocError, Global};
 
-/// The line of what is tried, its end with it. The serial number of an intent counts within the
-/// life of one process.
+/// Returns the line of a try, with its end. The serial number of an intent counts within the life
+/// of one process.
+///
+/// # Errors
+///
+/// `AllocError` if there was no memory.
 pub fn text_of(alloc: Global, asked: Try) -> Result<Vec<u8>, AllocError>
     ensures { IfOk result (λ said. said.items ≡ text_of asked) }
 {

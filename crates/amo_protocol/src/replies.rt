@@ -1,4 +1,4 @@
-//! What a worker hears from its partner.
+//! The replies of a partner, as lines.
 ghost use Rattle.std.specs.Prelude.{◌≡◌, ◌≢◌, Some, IfSome};
 ghost use Rattle.amo_driver.specs.declared.answer.Reply.{Reply as ReplyView};
 ghost use Rattle.amo_driver.specs.declared.answer.Way.{Way as WayView};
@@ -9,14 +9,14 @@ use amo_driver::{JobResult, Reply, Way};
 use amo_run_log::code_of;
 use std::str;
 
-/// What a line says in answer; it is given without its end. What is no answer is garbled.
+/// Returns the reply of a line, which is given without its end. An invalid line is `Garbled`.
 pub fn reply_in(said: &[u8]) -> Reply
     ensures exact { result ≡ reply_in said.now }
-    // What is heard was said so.
+    // The reply that is read has this text.
     ensures heard { IfSome (text_of result) (λ text. text ≡ said.now) }
-    // What was said is heard.
+    // The text of a reply is read as that reply.
     ensures was_said { (reply : ReplyView) → Fits reply → text_of reply ≡ Some said.now → result ≡ reply }
-    // No line says that there is nobody any more.
+    // No line means that the partner is gone.
     ensures somebody { result ≢ Reply.Closed }
 {
     reply_of_bytes(said)
@@ -34,7 +34,7 @@ pub fn over_reply_in(said: &[u8]) -> Option<Way>
     way_of(said)
 }
 
-/// What the bytes say. What is no text is no answer.
+/// Returns the reply that the bytes say. Bytes that are not UTF-8 are an invalid reply.
 #[tactic(auto, using(crate::proofs::ReplyTexts::no_text))]
 fn reply_of_bytes(said: &[u8]) -> Reply
     ensures { result ≡ reply_in said.now }
@@ -80,7 +80,7 @@ fn reply_of_word(word: &str, rest: &str) -> Option<Reply>
     }
 }
 
-/// The number, the code and the way that the text says.
+/// Returns the number, the code and the way that the text says.
 fn code_and_way(text: &str) -> Option<(u64, u8, Way)>
     ensures { result ≡ code_and_way_in text.now }
 {
@@ -91,7 +91,7 @@ fn code_and_way(text: &str) -> Option<(u64, u8, Way)>
     Some((serial, code, way))
 }
 
-/// The number and the way that the text says.
+/// Returns the number and the way that the text says.
 fn number_and_way(text: &str) -> Option<(u64, Way)>
     ensures { result ≡ number_and_way_in text.now }
 {

@@ -1,12 +1,16 @@
-//! What a worker says to its partner.
+//! The messages of a worker to its partner, as lines.
 ghost use Rattle.std.specs.Prelude.{◌≡◌, IfOk};
 ghost use Rattle.amo_protocol.specs.Sayings.{job_line, over_text, perform_text, was_text};
 
 use std::alloc::{AllocError, Global};
 
-/// The line that tells the partner to perform a job, its end with it. The serial number is that of
-/// the intent, the number that of its line in the jobs' file, and the text that line, without its
-/// end.
+/// Returns the line that asks the partner to perform a job, with its end. The serial number is that
+/// of the intent. The number is that of its line in the jobs' file, and the text is that line,
+/// without its end.
+///
+/// # Errors
+///
+/// `AllocError` if there was no memory.
 pub fn perform_text(
     alloc: Global,
     serial: u64,
@@ -18,8 +22,12 @@ pub fn perform_text(
     job_line(alloc, "perform", serial, line, text)
 }
 
-/// The line that asks the partner what became of a job which a former process of the worker has
-/// begun, its end with it.
+/// Returns the line that asks the partner for the result of a job which a former process of the
+/// worker has begun, with its end.
+///
+/// # Errors
+///
+/// `AllocError` if there was no memory.
 pub fn was_text(alloc: Global, serial: u64, line: u64, text: &[u8]) -> Result<Vec<u8>, AllocError>
     ensures { IfOk result (λ said. said.items ≡ was_text serial line text.now) }
 {
@@ -34,7 +42,7 @@ pub fn over_text() -> &'static [u8]
     b"over\n".as_slice()
 }
 
-/// A line that begins with this word.
+/// Returns a line that begins with this word.
 fn job_line(
     alloc: Global,
     word: &str,

@@ -32,14 +32,14 @@ whole None left bytes answer taken end is = tt
 whole (Some xs) None bytes answer taken end is = absurd taken
 whole (Some xs) (Some rest) bytes answer taken end is = same_plan xs rest bytes taken end ∙ is
 
--- and so is why there is no plan
+-- and so is the reason why the bytes are not a plan
 pub no_plan : (known left : Option (List ℕ)) (bytes : List ℕ) (e : ReplayFault) → Consumes known left bytes → (length bytes < MOST_READ → IsAtEnd left) → IsNotMade e (plan_of bytes) → IsNoPlan e known
 no_plan known left bytes (Plan f) taken end none = (whole known left bytes (Err f) taken end none.0, none.1)
 no_plan known left bytes Read taken end none = tt
 no_plan known left bytes Write taken end none = none
 no_plan known left bytes NoMemory taken end none = tt
 
--- where a plan was read the source is at its end
+-- the source is at its end if a plan was read
 pub at_end : (left : Option (List ℕ)) (bytes : List ℕ) (plan : PlanSeen) → (length bytes < MOST_READ → IsAtEnd left) → plan_of bytes ≡ Ok plan → IsAtEnd left
 at_end left bytes plan end is =
     elim (cases_lt (length bytes) MOST_READ) [

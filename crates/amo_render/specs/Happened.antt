@@ -1,4 +1,4 @@
--- What a history says of a worker and of a job.
+-- The events of a history on a worker and on a job.
 use Rattle.std.specs.Prelude.{ℕ, Bool, true, false, not, List, [], ◌∷◌, ◌==◌, if◌then◌else◌, codes}
 use Rattle.amo_sets.specs.Sets.{has, members}
 use Rattle.amo_kk.specs.Run.{claimed_jobs}

@@ -6,7 +6,7 @@ abbrev pub numbers_from : ℕ → ℕ → List ℕ
 numbers_from first zero = []
 numbers_from first (suc count) = numbers_from first count ++ (first + count) ∷ []
 
--- the lesser of a number and another, where there is one
+-- the lesser of a number and another, if there is another
 abbrev pub lesser : ℕ → Option ℕ → ℕ
 lesser n None = n
 lesser n (Some other) = min n other

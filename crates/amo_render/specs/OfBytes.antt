@@ -1,4 +1,4 @@
--- What is left where a text is made of all bytes of a source, and is written to a sink.
+-- The streams after a text is made of all bytes of a source, and is written to a sink.
 use Rattle.std.specs.Prelude.{◌≡◌, ◌≢◌, ◌<◌, ◌⊎◌, List, ℕ, Option, IfSome, length}
 use Rattle.std.specs.Io.KnownBytes.{Keeps, Appends}
 use Rattle.amo_plan.specs.declared.limits.TheConstants.{MOST_BYTES}
@@ -27,8 +27,8 @@ pub record HasNoText (is_refused : List ℕ → PlanFault → Type 0) (f : PlanF
   pub refused : is_refused bytes f
   pub not_memory : f ≢ fault.NoMemory
 
--- What is left where the text was not written whole: of a source that had these bytes, and of a sink by what it held and what it
--- holds now. A fault of a plan comes where there are too many bytes, or where they have no text for that fault.
+-- The streams after a fault: a source that had these bytes, and a sink by its bytes before and now.
+-- A fault of a plan comes if there are too many bytes, or if they have no text for that fault.
 abbrev pub RefusesOf : (List ℕ → List ℕ → Type 0) → (List ℕ → PlanFault → Type 0) → ReplayFault → Option (List ℕ) → Option (List ℕ) → Option (List ℕ) → Type 0
 RefusesOf is_of is_refused (Plan f) known old new = (((f ≡ fault.TooLong) × IsTooMuch known) ⊎ HasNoText is_refused f known) × Keeps old new
 RefusesOf is_of is_refused Read known old new = Keeps old new

@@ -1,4 +1,4 @@
--- What is left where a text is made of the plan of a source, and is written to a sink.
+-- The streams after a text is made of the plan of a source, and is written to a sink.
 use Rattle.std.specs.Prelude.{◌≡◌, ◌≢◌, List, ℕ, Option, Bool, true, false, IfSome, Result, Err}
 use Rattle.std.specs.Result.{IsOkAnd}
 use Rattle.std.specs.Io.KnownBytes.{Keeps, Appends}
@@ -20,12 +20,13 @@ abbrev pub is_failed_write : {A : Type 0} → Result A ReplayFault → Bool
 is_failed_write (Err Write) = true
 is_failed_write answer = false
 
--- What is made of a plan is its text, or a fault for which it has none. This is made of the plan that these bytes are,
--- or there is no plan for this fault.
+-- The text of a plan, or a fault for which it has no text. Either this is made of the plan that
+-- these bytes are, or the bytes are not a plan, for this fault.
 abbrev pub made_in : (PlanSeen → Result (List ℕ) PlanFault) → List ℕ → Result (List ℕ) PlanFault
 made_in made bytes = plan_of bytes >>= made
 
--- why there is no text: a fault of a plan of which this holds, or out of memory, which is never given as a fault of a plan
+-- the reason for no text: a fault of a plan of which this holds, or out of memory, which is never
+-- given as a fault of a plan
 abbrev pub IsNoText : (PlanFault → Type 0) → ReplayFault → Type 0
 IsNoText is_refused (Plan f) = is_refused f × (f ≢ fault.NoMemory)
 IsNoText is_refused Read = ⊥
@@ -51,8 +52,8 @@ Writes made known old new = IfSome known (λ bytes. IsOkAnd (made_in made bytes)
 abbrev pub WritesFront : (PlanSeen → Result (List ℕ) PlanFault) → Option (List ℕ) → Option (List ℕ) → Option (List ℕ) → Type 0
 WritesFront made known old new = IfSome known (λ bytes. IsOkAnd (made_in made bytes) (λ text. AppendsFront old new text))
 
--- What is left where the text was not written whole: of a source that had these bytes, and of a sink by what it held
--- and what it holds now. Out of memory is never given as a fault of the plan.
+-- The streams after a fault: a source that had these bytes, and a sink by its bytes before and now.
+-- Out of memory is never given as a fault of the plan.
 abbrev pub Refuses : (PlanSeen → Result (List ℕ) PlanFault) → ReplayFault → Option (List ℕ) → Option (List ℕ) → Option (List ℕ) → Type 0
 Refuses made (Plan f) known old new = IfSome known (λ bytes. made_in made bytes ≡ Err f) × (f ≢ fault.NoMemory) × Keeps old new
 Refuses made Read known old new = Keeps old new

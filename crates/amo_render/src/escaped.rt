@@ -11,7 +11,7 @@ fn is_plain(byte: u8) -> bool
     32 <= byte && byte <= 126 && byte != b'\\'
 }
 
-/// The lower-case hexadecimal digit of a number below 16.
+/// Returns the lower-case hexadecimal digit of a number below 16.
 fn hex_digit(number: u8) -> u8
     requires { number < 16 }
     ensures digit { result ≡ hex_digit number }
@@ -38,7 +38,11 @@ fn push_byte(out: &mut String, byte: u8) -> Result<(), AllocError>
     out.push(hex_digit(byte % 16) as char)
 }
 
-/// Appends the bytes of a text as they are printed. After `AllocError` some of them may be there.
+/// Appends the bytes of a text as they are printed.
+///
+/// # Errors
+///
+/// `AllocError` if there was no memory. Some of the bytes may have been appended.
 pub fn push_escaped(out: &mut String, text: &[u8]) -> Result<(), AllocError>
     ensures { OnOk result (string_bytes out.new ≡ string_bytes out.old ++ escaped text.now) }
 {

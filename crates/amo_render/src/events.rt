@@ -20,7 +20,11 @@ fn push_event(out: &mut String, number: usize, event: Event) -> Result<(), Alloc
     }
 }
 
-/// Appends a line for each event, numbered from 1. The only error is out of memory.
+/// Appends a line for each event, numbered from 1.
+///
+/// # Errors
+///
+/// `AllocError` if there was no memory.
 pub fn push_events(out: &mut String, history: &[Event]) -> Result<(), AllocError>
     ensures { OnOk result (string_bytes out.new ≡ string_bytes out.old ++ event_lines 1 history.now) }
 {
@@ -30,7 +34,7 @@ pub fn push_events(out: &mut String, history: &[Event]) -> Result<(), AllocError
     Ok(())
 }
 
-/// How a worker went, in one word.
+/// Returns how a worker went, in one word.
 pub fn state_of(worker: usize, history: &[Event]) -> &'static str
     ensures { result.now ≡ state_of worker history.now }
 {
@@ -65,7 +69,7 @@ fn is_done_of(worker: usize, event: &Event) -> bool
     }
 }
 
-/// How many claims of the worker the history has.
+/// Returns how many claims of the worker the history has.
 pub fn claims_of(worker: usize, history: &[Event]) -> usize
     ensures { result ≡ count_by (is_claim_of worker) history.now }
 {
@@ -75,7 +79,7 @@ pub fn claims_of(worker: usize, history: &[Event]) -> usize
         .count()
 }
 
-/// How many performances of the worker the history has.
+/// Returns how many performances of the worker the history has.
 pub fn dones_of(worker: usize, history: &[Event]) -> usize
     ensures { result ≡ count_by (is_done_of worker) history.now }
 {
@@ -102,8 +106,12 @@ fn push_worker(
     writeln!(out, " claimed {claims} done {dones}")
 }
 
-/// Appends a line for each worker, given how many turns each has had. The only error is out of
-/// memory. What the text is then isn't said: a caller drops it.
+/// Appends a line for each worker with its number of turns.
+///
+/// # Errors
+///
+/// `AllocError` if there was no memory. The text may have any content then, and the caller must
+/// drop it.
 pub fn push_workers(out: &mut String, history: &[Event], turns: &[u64]) -> Result<(), AllocError>
     ensures { OnOk result (string_bytes out.new ≡ string_bytes out.old ++ worker_lines history.now 1 turns.now) }
 {

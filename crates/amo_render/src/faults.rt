@@ -6,7 +6,7 @@ use amo_givens::GivensFault;
 use amo_plan::PlanFault;
 use std::alloc::{AllocError, Global};
 
-/// The number and the name of a fault of the givens.
+/// Returns the number and the name of a fault of the givens.
 fn givens_fault_name(fault: GivensFault) -> &'static str
     ensures { result.now ≡ givens_fault_name fault }
 {
@@ -19,8 +19,11 @@ fn givens_fault_name(fault: GivensFault) -> &'static str
     }
 }
 
-/// The line of a plan's fault: the word `fault`, its number, its name and its fields. The only
-/// error is want of memory.
+/// Returns the line of a plan's fault: the word `fault`, its number, its name and its fields.
+///
+/// # Errors
+///
+/// `AllocError` if there was no memory.
 pub fn fault_text(alloc: Global, fault: &PlanFault) -> Result<String, AllocError>
     ensures { IfOk result (λ s. string_bytes s ≡ fault_line fault.now) }
 {

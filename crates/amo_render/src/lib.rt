@@ -1,5 +1,14 @@
-//! What the texts of plans have in common: their lines, the line of each fault, and how a text is
-//! made of the plan that a source holds and written to a sink.
+//! The common parts of the texts of plans: their lines, the line of each fault, and the way from a
+//! source's bytes to a sink.
+//!
+//! Start at [`write_of`], which reads a plan from a source, makes a text of it, and writes the text
+//! to a sink.
+//!
+//! | here | in the glossary |
+//! |---|---|
+//! | n, m | the numbers of jobs and workers |
+//! | p | a worker |
+//! | j | a job |
 #![tactic(auto)]
 
 mod counting;

@@ -6,7 +6,7 @@ use amo_givens::Givens;
 use amo_plan::Heads;
 use std::alloc::AllocError;
 
-/// Appends what a text says of blocks: nothing in version 1.
+/// Appends the words on blocks: nothing in version 1.
 #[tactic(auto, unfolding(crate::specs::Numbers::block_part))]
 fn push_block(out: &mut String, version: u32, block: u32, givens: Givens) -> Result<(), AllocError>
     ensures { OnOk result (string_bytes out.new ≡ string_bytes out.old ++ block_part version block givens) }
@@ -18,7 +18,11 @@ fn push_block(out: &mut String, version: u32, block: u32, givens: Givens) -> Res
     write!(out, " block {block} blocks {blocks}")
 }
 
-/// Appends the numbers of jobs and workers and the threshold. The only error is out of memory.
+/// Appends the numbers of jobs and workers and the threshold.
+///
+/// # Errors
+///
+/// `AllocError` if there was no memory.
 #[tactic(auto, unfolding(crate::specs::Numbers::numbers_part))]
 pub fn push_numbers(out: &mut String, heads: &Heads) -> Result<(), AllocError>
     ensures { OnOk result (string_bytes out.new ≡ string_bytes out.old
@@ -32,8 +36,12 @@ pub fn push_numbers(out: &mut String, heads: &Heads) -> Result<(), AllocError>
     write!(out, " workers {workers} beta {beta}")
 }
 
-/// Appends the words of the first line of a report: these numbers and the bound. The only error is
-/// out of memory. What the text is then isn't said: a caller drops it.
+/// Appends the words of the first line of a report: these numbers and the bound.
+///
+/// # Errors
+///
+/// `AllocError` if there was no memory. The text may have any content then, and the caller must
+/// drop it.
 #[tactic(auto, unfolding(crate::specs::Numbers::first_words))]
 pub fn push_first_words(out: &mut String, heads: &Heads) -> Result<(), AllocError>
     ensures { OnOk result (string_bytes out.new ≡ string_bytes out.old
@@ -44,8 +52,12 @@ pub fn push_first_words(out: &mut String, heads: &Heads) -> Result<(), AllocErro
     write!(out, " bound {bound}")
 }
 
-/// Appends the first line of a report: these words. The only error is out of memory. What the text
-/// is then isn't said: a caller drops it.
+/// Appends the first line of a report.
+///
+/// # Errors
+///
+/// `AllocError` if there was no memory. The text may have any content then, and the caller must
+/// drop it.
 #[tactic(auto, unfolding(crate::specs::Numbers::first_line))]
 pub fn push_first_line(out: &mut String, heads: &Heads) -> Result<(), AllocError>
     ensures { OnOk result (string_bytes out.new ≡ string_bytes out.old

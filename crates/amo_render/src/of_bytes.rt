@@ -13,23 +13,29 @@ use std::alloc::Global;
 
 /// A text that is made of bytes.
 pub trait BytesText {
-    /// Whether the second are the bytes of this text of the first.
+    /// The second bytes are the text of the first.
     ghost is_of: { Self → List ℕ → List ℕ → Type 0 };
 
-    /// Whether the bytes have no such text, for this fault of a plan.
+    /// The bytes have no such text, for this fault of a plan.
     ghost is_refused: { Self → List ℕ → PlanFault → Type 0 };
 
-    /// The text of these bytes. `Plan(f)` comes only where they have none for the fault f; the only
-    /// other one is out of memory.
+    /// Returns the text of these bytes.
+    ///
+    /// # Errors
+    ///
+    /// `Plan(f)` only if the bytes have no text for the fault f. `NoMemory` if there was no memory.
     fn make(&self, alloc: Global, bytes: &[u8]) -> Result<String, ReplayFault>
         ensures text { IfOk result (λ s. is_of self.now bytes.now (string_bytes s)) }
         ensures refused { IfErr result (λ e. IsNoText (is_refused self.now bytes.now) e) };
 }
 
 /// Reads to the end of the reader, and writes the text that is made of all its bytes and nothing
-/// else. Neither stream may have failed. A fault of a plan comes only where the bytes have no such
-/// text for it, or TooLong where they are more than 1,048,576; what each fault leaves is said at
-/// `ReplayFault`.
+/// else. Neither stream may have failed.
+///
+/// # Errors
+///
+/// `Plan(f)` only if the bytes have no such text for the fault f. It is `TooLong` if they are more
+/// than 1,048,576. `ReplayFault` states for each fault which state it leaves.
 #[tactic(auto, using(crate::proofs::OfBytes::all_read, crate::proofs::OfBytes::too_many, crate::proofs::OfBytes::written_of, crate::proofs::OfBytes::front_of, crate::proofs::OfBytes::refused_of))]
 pub fn write_of_bytes<T: BytesText, R: Source, W: Sink>(
     alloc: Global,

@@ -1,4 +1,4 @@
-//! Writes the results of what was performed.
+//! Writes the results of the performed jobs.
 ghost use Rattle.std.specs.Prelude.{◌≡◌, ◌++◌, ◌+◌, ◌<◌, ◌^◌, true, OnOk, IsTrue, string_bytes, length, take, drop};
 ghost use Rattle.std.specs.List.{list_all};
 ghost use Rattle.amo_plan.specs.Results.{fits, result_text};
@@ -54,8 +54,7 @@ fn push_tasks(
     Ok(())
 }
 
-/// What jobs in a row have, of a slice that has something for each job: `count` of them, after
-/// `before` others.
+/// Returns `count` items of a slice that has an item for each job, after `before` others.
 fn part<T>(items: &[T], before: usize, count: usize) -> &[T]
     ensures { result.now ≡ take count (drop before items.now) }
 {
@@ -84,7 +83,11 @@ fn push_block_results(
     push_tasks(alloc, out, before, names, tasks)
 }
 
-/// Appends the results of each block that the history performs. The only error is out of memory.
+/// Appends the results of each block that the history performs.
+///
+/// # Errors
+///
+/// `AllocError` if there was no memory.
 pub fn push_results(
     alloc: Global,
     out: &mut String,

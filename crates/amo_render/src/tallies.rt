@@ -9,7 +9,7 @@ use amo_kk::Event;
 use amo_plan::Heads;
 use std::alloc::AllocError;
 
-/// How many jobs the block with this number has, of so many jobs.
+/// Returns how many jobs the block with this number has, of so many jobs.
 pub fn jobs_in_block(block: u32, jobs: usize, number: u32) -> u64
     ensures value { result ≡ jobs_in_block block jobs number }
     ensures few { result ≤ block }
@@ -18,7 +18,7 @@ pub fn jobs_in_block(block: u32, jobs: usize, number: u32) -> u64
     (block as u64).min((jobs as u64).saturating_sub(before))
 }
 
-/// How many jobs the performed blocks have.
+/// Returns how many jobs the performed blocks have.
 fn count_jobs(block: u32, jobs: usize, history: &[Event]) -> u64
     requires { length history.now < 2 ^ 32 }
     ensures { result ≡ sum_by (jobs_in_block block jobs) (done_jobs history.now) }
@@ -48,7 +48,7 @@ fn push_blocks(out: &mut String, dones: usize, jobs: u64) -> Result<(), AllocErr
     write!(out, "performed blocks {dones} jobs {jobs}")
 }
 
-/// Appends what was performed: so many blocks, with so many jobs.
+/// Appends the counts of performances: so many blocks, with so many jobs.
 #[tactic(auto, unfolding(crate::specs::Tallies::tally_words))]
 fn push_tally_words(
     out: &mut String,
@@ -65,7 +65,11 @@ fn push_tally_words(
     }
 }
 
-/// Appends the line of what was performed. The only error is out of memory.
+/// Appends the line of the performed jobs.
+///
+/// # Errors
+///
+/// `AllocError` if there was no memory.
 #[tactic(auto, unfolding(crate::specs::Tallies::tally_line))]
 pub fn push_tally(out: &mut String, version: u32, dones: usize, jobs: u64) -> Result<(), AllocError>
     ensures { OnOk result (string_bytes out.new ≡ string_bytes out.old ++ tally_line version dones jobs) }
@@ -74,8 +78,12 @@ pub fn push_tally(out: &mut String, version: u32, dones: usize, jobs: u64) -> Re
     out.push_str("\n")
 }
 
-/// Appends what a history performs. The only error is out of memory. What the text is then isn't
-/// said: a caller drops it.
+/// Appends the counts of a history's performances.
+///
+/// # Errors
+///
+/// `AllocError` if there was no memory. The text may have any content then, and the caller must
+/// drop it.
 pub fn push_performed_words(
     out: &mut String,
     heads: &Heads,
@@ -89,8 +97,12 @@ pub fn push_performed_words(
     push_tally_words(out, heads.version, dones, done_jobs)
 }
 
-/// Appends the line of what a history performs. The only error is out of memory. What the text is
-/// then isn't said: a caller drops it.
+/// Appends the line of a history's performances.
+///
+/// # Errors
+///
+/// `AllocError` if there was no memory. The text may have any content then, and the caller must
+/// drop it.
 #[tactic(auto, unfolding(crate::specs::Tallies::tally_line))]
 pub fn push_performed(out: &mut String, heads: &Heads, history: &[Event]) -> Result<(), AllocError>
     requires { length history.now < 2 ^ 32 }

@@ -1,4 +1,4 @@
-//! Writes which jobs nobody has claimed.
+//! Writes the jobs that nobody has claimed.
 ghost use Rattle.std.specs.Prelude.{◌≡◌, ◌++◌, ◌≤◌, ℕ, false, true, not, OnOk, IfOk, string_bytes, length, vec_len};
 ghost use Rattle.amo_sets.specs.Lists.{numbered, put};
 ghost use Rattle.amo_sets.specs.Sets.{has, members};
@@ -10,7 +10,7 @@ ghost use Rattle.amo_render.specs.Tallies.{unclaimed_line};
 use amo_kk::Event;
 use std::alloc::{AllocError, Global};
 
-/// Sets the mark of a job, where it has one.
+/// Sets the mark of a job, if it has one.
 fn set_mark(marks: &mut [bool], job: u32)
     ensures { marks.new ≡ put marks.old job true }
 {
@@ -19,7 +19,7 @@ fn set_mark(marks: &mut [bool], job: u32)
     }
 }
 
-/// A mark for each of so many jobs, set where the history claims it.
+/// Returns a mark for each of so many jobs, set if the history claims it.
 #[tactic(auto, using(crate::proofs::Marks::marked_more))]
 fn claimed_marks(alloc: Global, jobs: u32, history: &[Event]) -> Result<Vec<bool>, AllocError>
     ensures count { IfOk result (λ v. vec_len v ≡ jobs) }
@@ -60,8 +60,11 @@ fn push_unclaimed_jobs(
     push_unmarked(out, &marks)
 }
 
-/// Appends the line of the jobs, of so many, that nobody has claimed. The only error is out of
-/// memory.
+/// Appends the line of the jobs, of so many, that nobody has claimed.
+///
+/// # Errors
+///
+/// `AllocError` if there was no memory.
 #[tactic(auto, unfolding(crate::specs::Tallies::unclaimed_line))]
 pub fn push_unclaimed(
     alloc: Global,

@@ -18,8 +18,8 @@ use std::alloc::{AllocError, Global};
 /// Why the text of a plan was not written, or not all of it.
 #[derive(Clone, Copy, Debug, PartialEq, Eq)]
 pub enum ReplayFault {
-    /// What the source holds has no such text, for this fault, which isn't out of memory: it is no
-    /// plan, or one that the text refuses, or has too many bytes. Nothing was written.
+    /// The bytes of the source have no such text, for this fault, which isn't out of memory. They
+    /// are not a plan, or a plan that the text refuses, or too many. Nothing was written.
     Plan(PlanFault),
     /// The source failed. Nothing was written.
     Read,
@@ -37,8 +37,12 @@ impl From<AllocError> for ReplayFault {
     }
 }
 
-/// The plan that these bytes are. `Plan(f)` comes just where they give the fault f, memory aside;
-/// the only other one is out of memory. What is read keeps what each plan keeps.
+/// Returns the plan that these bytes are. The plan keeps what each plan keeps.
+///
+/// # Errors
+///
+/// `Plan(f)` exactly if the bytes give the fault f, unless f is want of memory. `Memory` if there
+/// was no memory.
 pub fn plan_of_bytes(alloc: Global, bytes: &[u8]) -> Result<Plan, ReplayFault>
     ensures plan { IfOk result (λ p. plan_of bytes.now ≡ Ok (plan_seen p)) }
     ensures kept { IfOk result (λ p. Keeps (plan_seen p)) }
@@ -52,9 +56,13 @@ pub fn plan_of_bytes(alloc: Global, bytes: &[u8]) -> Result<Plan, ReplayFault>
     }
 }
 
-/// Reads a plan from all bytes of a source that has not failed. `Plan(f)` comes just where the
-/// bytes give the fault f, memory aside; `Read` just where the source has failed; `Write` never.
-/// What is read keeps what each plan keeps.
+/// Reads a plan from all bytes of a source that has not failed. The plan keeps what each plan
+/// keeps.
+///
+/// # Errors
+///
+/// `Plan(f)` exactly if the bytes give the fault f, unless f is want of memory. `Read` exactly if
+/// the source has failed. `NoMemory` if there was no memory. It never returns `Write`.
 #[tactic(auto, using(crate::proofs::Whole::at_end, crate::proofs::Whole::no_plan))]
 pub fn read_source<R: Source>(alloc: Global, reader: &mut R) -> Result<Plan, ReplayFault>
     requires { R.failed reader.old ≡ false }
@@ -73,8 +81,11 @@ pub fn read_source<R: Source>(alloc: Global, reader: &mut R) -> Result<Plan, Rep
     Ok(plan)
 }
 
-/// Writes a text and flushes the sink. `Write`, the only fault, comes just where the sink has
-/// failed; then a beginning of the text was written.
+/// Writes a text and flushes the sink.
+///
+/// # Errors
+///
+/// `Write` exactly if the sink has failed. A beginning of the text was written then.
 pub fn write_text<W: Sink>(writer: &mut W, text: &String) -> Result<(), ReplayFault>
     requires { W.failed writer.old ≡ false }
     ensures ok { OnOk result (Appends (W.contents writer.old) (W.contents writer.new) (string_bytes text.now)) }
@@ -90,8 +101,12 @@ pub fn write_text<W: Sink>(writer: &mut W, text: &String) -> Result<(), ReplayFa
 }
 
 /// Reads a plan to the end of the reader, and writes the text that is made of it and nothing else.
-/// The text's numbers have to be within their ranges, and neither stream may have failed. What each
-/// fault leaves is said at `ReplayFault`.
+/// The text's numbers must be within their ranges, and neither stream may have failed.
+///
+/// # Errors
+///
+/// The fault of the read, the plan or the write. `ReplayFault` states for each fault which state it
+/// leaves.
 pub fn write_of<T: PlanText, R: Source, W: Sink>(
     alloc: Global,
     text: &T,

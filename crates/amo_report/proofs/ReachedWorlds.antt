@@ -1,5 +1,5 @@
--- The facts about a world that is reached by so many moves: it is lawful, its history is judged lawful, and no worker has
--- had more steps than there were moves.
+-- A world that is reached by so many moves is lawful. Its history is judged lawful, and no worker
+-- has had more steps than there were moves.
 use Rattle.std.proofs.Common.{◌≡◌, ℕ, ◌+◌, ◌≤◌, false, List, [], ◌∷◌, ◌++◌, length, length-append, lit≤, refl, ap, ◌∙◌, subst, arith}
 use Rattle.std.specs.Prelude.{replicate}
 use Rattle.std.proofs.lemmas.List.{length-replicate}

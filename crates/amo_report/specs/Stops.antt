@@ -37,7 +37,7 @@ after_lone_run g p r =
     then r
     else (let after : LoneRun = record { world = world_after_turns g r.world p turns; most = max r.most turns } in after)
 
--- the same, so many times
+-- the state after so many lone runs of p
 abbrev pub after_lone_runs : Givens → ℕ → ℕ → LoneRun → LoneRun
 after_lone_runs g p zero r = r
 after_lone_runs g p (suc times) r = after_lone_run g p (after_lone_runs g p times r)

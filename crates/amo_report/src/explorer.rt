@@ -28,7 +28,7 @@ fn run_schedule(world: &mut World, number: u64, length: u32)
     }
 }
 
-/// Returns the world after a numbered schedule and the passes of the plan. The only error is out of
+/// Returns the world after a numbered schedule and the passes of the plan. Fails if there was no
 /// memory.
 fn run_explored(alloc: Global, plan: &Plan, number: u64, length: u32) -> Result<World, AllocError>
     ensures { IfOk result (λ w. w ≡ record { givens = (plan_seen plan.now).givens; world = explored_world (plan_seen plan.now) length number }) }

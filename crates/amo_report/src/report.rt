@@ -48,8 +48,8 @@ fn push_closing(
     push_unclaimed(alloc, out, heads.givens.jobs, history)
 }
 
-/// Returns the report of a plan with this history and these numbers of turns. The only error is out
-/// of memory.
+/// Returns the report of a plan with this history and these numbers of turns. Fails if there was no
+/// memory.
 #[tactic(auto, unfolding(crate::specs::Report::report_lines))]
 fn history_report(
     alloc: Global,

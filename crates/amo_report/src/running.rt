@@ -28,7 +28,7 @@ pub(crate) fn run_rounds(world: &mut World, count: u32)
     }
 }
 
-/// Returns the world of a plan, after its schedule and its passes. The only error is out of memory.
+/// Returns the world of a plan, after its schedule and its passes. Fails if there was no memory.
 pub(crate) fn simulate(alloc: Global, plan: &Plan) -> Result<World, AllocError>
     ensures { IfOk result (λ w. w ≡ record { givens = (plan_seen plan.now).givens; world = plan_world (plan_seen plan.now) }) }
 {

@@ -66,8 +66,8 @@ fn run_all_out(world: &mut World) -> u64
     most
 }
 
-/// Returns the world in which worker p crashes after the first `count` moves of the plan. The only
-/// error is out of memory.
+/// Returns the world in which worker p crashes after the first `count` moves of the plan. Fails if
+/// there was no memory.
 fn stop_after(alloc: Global, plan: &Plan, p: u32, count: usize) -> Result<World, AllocError>
     requires worker { IsWorker plan.now.heads.givens p }
     requires count { count ≤ length plan.now.heads.moves }

@@ -37,8 +37,8 @@ pub enum Wanted {
     },
 }
 
-/// Returns the report of a plan, in the world after its schedule and its passes. The only error is
-/// out of memory.
+/// Returns the report of a plan, in the world after its schedule and its passes. Fails if there was
+/// no memory.
 fn plan_report(alloc: Global, plan: &Plan) -> Result<String, AllocError>
     ensures { IfOk result (λ s. string_bytes s ≡ report_of (plan_seen plan.now)) }
 {

@@ -102,7 +102,7 @@ module _ (g : Givens) (ok : AreGivens g) (at : ℕ → Process) (before : AreLaw
   pub entries : entries_of (at p).row ≡ (at p).local.dones
   entries = entries_are (at p).row (at p).local.dones (before.sound p w).row some_dones
 
-  -- where the hand is empty there are as many claims as dones, else one more
+  -- an empty hand means as many claims as dones, and a full one means one claim more
   pub counts_empty : jobs_in_hand (at p).local.phase ≡ [] → ((at p).claim == length (at p).local.dones) ≡ true
   counts_empty empty =
       let s = before.sound p w in

@@ -52,7 +52,7 @@ may-append (Returned q j ∷ xs) ys p h = may-append xs ys p (if q == p then 0 e
 pub has_claim : (xs : List Entry) (p j : ℕ) → 1 ≤ j → may_perform p 0 xs ≡ j → has_claimed (events_in xs) p j ≡ true
 has_claim xs p j some e = ⊎_elim (λ (x : (0 ≡ j) × HasNoDeed p xs). absurd (let z = x.0 in omega arith)) (λ c. c) (came xs p 0 j some e)
 
--- where no job is claimed twice, a job has one claimer
+-- a job has one claimer, if no job is claimed twice
 claimer : (es : List Event) (p q j : ℕ) → AreDistinct (claimed_jobs es) → has_claimed es p j ≡ true → has_claimed es q j ≡ true → p ≡ q
 claimer [] p q j d a b = absurd (true≢false (sym a))
 claimer (Claimed r i ∷ es) p q j d a b = ⊎_elim

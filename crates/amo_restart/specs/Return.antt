@@ -56,7 +56,7 @@ tale_with_return g t p a =
       entries = t.entries ++ Returned p (doubt a.next a.claim (entries_of a.row)) ∷ entries_for (ended_if_over p b.local.phase);
     }
 
--- the tale after a return of p, if p is a worker: whatever became of it before
+-- the tale after a return of p, if p is a worker, whatever became of it before
 abbrev pub tale_after_return : Givens → Tale → ℕ → Tale
 tale_after_return g t p = if is_within g.workers p then tale_with_return g t p (process (world_of_tale t) p) else t
 

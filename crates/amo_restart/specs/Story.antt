@@ -1,4 +1,5 @@
--- Which lists of entries are stories: runs of the sequential object, whose workers may come back. And what a story says.
+-- The lists of entries that are stories: runs of the sequential object, whose workers may come
+-- back. And the jobs that a story names.
 use Rattle.std.specs.Prelude.{◌≡◌, ℕ, suc, Bool, true, false, ◌&&◌, List, [], ◌∷◌, ◌==◌, if◌then◌else◌, ⊤}
 use Rattle.amo_sets.specs.Lists.{put}
 use Rattle.amo_sets.specs.Sets.{has, with_number}
@@ -12,12 +13,13 @@ use Rattle.amo_kk.specs.declared.model.Object.{Object}
 use Rattle.amo_restart.specs.declared.model.Entry.{Entry}
 use Rattle.amo_restart.specs.declared.model.Entry.TheVariants.{Shown, Returned}
 
--- whether the entry is a step of the object from this state: whoever returns is a worker, and says what is in its hand
+-- whether the entry is a step of the object from this state: a worker returns with what is in its
+-- hand
 abbrev pub is_entry : Givens → Object → Entry → Bool
 is_entry g s (Shown e) = is_step g s e
 is_entry g s (Returned p j) = is_within g.workers p && has_in_hand s p j
 
--- the state after it: whoever returns isn't gone, and what it has in its hand stays there
+-- the state after it: a worker that returns isn't gone, and what it has in its hand stays there
 abbrev pub object_after_entry : Object → Entry → Object
 object_after_entry s (Shown e) = object_after s e
 object_after_entry s (Returned p j) = record s { gone = put s.gone p false }

@@ -1,4 +1,5 @@
-//! The theorems over the definitions. Nothing here runs: each function's contract is a law.
+//! The theorems on workers that restart. Nothing here runs: each function's contract is a theorem.
+//! Start at `tale_is_a_story`.
 ghost use Rattle.std.specs.Prelude.{◌≡◌, ◌≢◌, ◌≤◌, ◌+◌, ℕ, true, false, List, ◌∷◌, ◌++◌, length, map};
 ghost use Rattle.amo_sets.specs.Sets.{has, AreDistinct};
 ghost use Rattle.amo_givens.specs.Givens.{bound, IsWorker};
@@ -23,8 +24,8 @@ ghost use Rattle.amo_kk.specs.Again.{entries_of, doubt};
 ghost use Rattle.amo_restart.specs.Return.{process_after_return, tale_of, tale_after_move, tale_after_return, filed_in, world_of_tale, entries_for};
 ghost use Rattle.amo_restart.specs.Story.{IsStory, object_after_entries, events_in, doubted_jobs, returns_in_doubt, filed_jobs, sure_jobs, may_perform, HasNoDeed};
 
-/// The headline. For all givens and every list of turns, stops, leavings and returns: all that
-/// holds of every world holds, the entries are a story of the one sequential object, and the state
+/// States the main theorem, for all givens and every list of turns, halts, leaves and returns. All
+/// that holds of every world holds. The entries are a story of the one sequential object. The state
 /// that the story leaves agrees with the workers.
 pub fn tale_is_a_story()
     ensures lawful { (g : Givens) (acts : List Act) → IsLawful g (world_of_tale (tale_of g acts)) }
@@ -33,9 +34,9 @@ pub fn tale_is_a_story()
         → Agrees g (process (world_of_tale (tale_of g acts))) (object_after_entries (first_object g) (tale_of g acts).entries) }
 {}
 
-/// What a story says in plain words: over all returns no job is claimed twice, none is filed twice,
-/// and each job that is filed, or in doubt at a return, was claimed before by the same worker; in
-/// doubt is only what isn't filed.
+/// States the consequences of a story in plain words, over all returns. No job is claimed twice,
+/// and none is filed twice. Each job that is filed, or in doubt at a return, was claimed before by
+/// the same worker. A job in doubt is not filed.
 pub fn stories_claim_once()
     ensures claims { (g : Givens) (xs : List Entry) → IsStory g (first_object g) xs → AreDistinct (claimed_jobs (events_in xs)) }
     ensures filed { (g : Givens) (xs : List Entry) → IsStory g (first_object g) xs → AreDistinct (filed_jobs xs) }
@@ -46,16 +47,17 @@ pub fn stories_claim_once()
         → (has_claimed (events_in before) p j ≡ true) × (has (filed_jobs before) j ≡ false) }
 {}
 
-/// A job is performed at most once: the moments at which it may be performed are one stretch, of
-/// one worker, after its claim, with no claim, filing or return of that worker in between.
+/// States that a job is performed at most once. The moments at which it may be performed are one
+/// stretch, of one worker, after its claim. No claim, filing or return of that worker stands in
+/// between.
 pub fn jobs_have_one_stretch()
     ensures { (g : Givens) (before more : List Entry) (p q j : ℕ) → IsStory g (first_object g) (before ++ more) → 1 ≤ j
         → may_perform p 0 before ≡ j → may_perform q 0 (before ++ more) ≡ j → (p ≡ q) × HasNoDeed p more }
 {}
 
-/// The bound, in its true form: where a worker ends by its own choice, at least `bound` jobs are
-/// filed; those performed for certain are fewer by at most the jobs that were in doubt at a return,
-/// and these are no more than the returns that found one in doubt.
+/// States the bound in its true form. If a worker has ended by its own choice, at least `bound`
+/// jobs are filed. The jobs performed for certain are fewer, by at most the jobs that were in doubt
+/// at a return. These are no more than the returns that found a job in doubt.
 pub fn stories_end_late()
     ensures filed { (g : Givens) (before after : List Entry) (p : ℕ)
         → IsStory g (first_object g) (before ++ Shown (Ended p) ∷ after) → bound g ≤ length (filed_jobs before) }
@@ -64,10 +66,10 @@ pub fn stories_end_late()
     ensures doubts { (xs : List Entry) → length (doubted_jobs xs) ≤ returns_in_doubt xs }
 {}
 
-/// In every lawful world the words of a worker tell all that matters of it: its row what it has
-/// done, the count of its claims whether a job is in its hand, and its announcement which. So the
-/// claims, too, are as they were. And the entries of all rows are as many as the jobs that are
-/// filed.
+/// States that in every lawful world the words of a worker show all that matters of it. Its row
+/// shows what it has done. The count of its claims shows whether a job is in its hand, and its
+/// announcement shows which. So the claims, too, are as they were. The entries of all rows are as
+/// many as the jobs that are filed.
 pub fn words_tell_claims()
     ensures dones { (g : Givens) (w : World) (p : ℕ) → IsLawful g w → IsWorker g p
         → entries_of (process w p).row ≡ (process w p).local.dones }
@@ -78,9 +80,9 @@ pub fn words_tell_claims()
     ensures filed { (g : Givens) (w : World) → IsLawful g w → filed_in g (words_of w.processes) ≡ done_count w }
 {}
 
-/// A return stores nothing. What it gives depends on the own words alone, so one that was cut off
-/// may be begun again; one more changes nothing; and it may stand before or after a move of another
-/// worker, so its loads are as good as one.
+/// States that a return stores nothing, and depends on the worker's own words alone. So a return
+/// that was cut off may begin again, and one more return changes nothing. It may stand before or
+/// after a move of another worker, so its loads are as good as one.
 pub fn returns_touch_no_word()
     ensures words { (g : Givens) (t : Tale) (p : ℕ) → words_of (tale_after_return g t p).processes ≡ words_of t.processes }
     ensures own { (g : Givens) (p : ℕ) (a b : Process) → a.next ≡ b.next → a.claim ≡ b.claim → a.row ≡ b.row
@@ -90,8 +92,8 @@ pub fn returns_touch_no_word()
         → (tale_after_move g (tale_after_return g t p) m).processes ≡ (tale_after_return g (tale_after_move g t m) p).processes }
 {}
 
-/// Without returns nothing is new: the tale of some moves has the workers of their world, and its
-/// history.
+/// States that without returns nothing is new: the tale of some moves has the workers of their
+/// world, and its history.
 pub fn tales_without_returns()
     ensures workers { (g : Givens) (moves : List Move)
         → (tale_of g (map (λ (m : Move). Moves m) moves)).processes ≡ (world_of g moves).processes }

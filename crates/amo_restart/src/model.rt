@@ -3,12 +3,12 @@ use amo_givens::Move;
 use amo_kk::{Event, Process};
 use std::collections::LinkedList;
 
-/// One choice of a schedule with returns.
+/// `Act`: one element of a schedule with restarts.
 #[derive(Clone, Copy, Debug, PartialEq, Eq)]
 pub enum Act {
-    /// A turn, a stop or a leaving.
+    /// A turn, a halt or a leave.
     Moves(Move),
-    /// The worker begins again from its own words, whatever became of it.
+    /// This worker begins again from its own words, whatever became of it before.
     Returns(u32),
 }
 
@@ -17,11 +17,11 @@ pub enum Act {
 pub enum Entry {
     /// An event of a worker.
     Shown(Event),
-    /// The worker began again, with this job in its hand and in doubt, or with 0.
+    /// This worker began again, with this job in its hand and in doubt, or with 0.
     Returned(u32, u32),
 }
 
-/// All workers, from 1, and the story of what they have shown.
+/// `Tale`, a restart trace: all workers, from 1, and the story of what they have shown.
 pub struct Tale {
     /// The workers in the order of their numbers.
     pub processes: LinkedList<Process>,

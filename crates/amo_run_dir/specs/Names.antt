@@ -9,19 +9,19 @@ use Rattle.amo_run_dir.specs.declared.names.Named.{Named}
 abbrev pub is_digit : ℕ → Bool
 is_digit byte = nat_le 48 byte && nat_le byte 57
 
--- what stands behind the digits at the front
+-- the bytes after the digits at the front
 abbrev pub behind_digits : List ℕ → List ℕ
 behind_digits [] = []
 behind_digits (b ∷ bytes) = if is_digit b then behind_digits bytes else b ∷ bytes
 
--- what stands behind one byte of a pattern: # stands for one digit or more, each other for itself
+-- the bytes after one byte of a pattern: # stands for one digit or more, each other byte for itself
 abbrev pub behind : ℕ → List ℕ → Option (List ℕ)
 behind p [] = None
 behind p (b ∷ name) =
     if p == 35 then (if is_digit b then Some (behind_digits name) else None)
     else (if p == b then Some name else None)
 
--- whether nothing is left of a name behind a pattern
+-- whether nothing is left of a name after a pattern
 abbrev pub fits_rest : List ℕ → Option (List ℕ) → Bool
 fits_rest pattern None = false
 fits_rest [] (Some []) = true

@@ -1,4 +1,4 @@
-//! What is looked at before anything is made or written in a run's folder.
+//! Checks of a run's folder, before anything is made or written there.
 use crate::creation::{make_beside, make_within};
 use crate::disk::check_file_system;
 use crate::error::{Door, Fault, had, written};
@@ -13,12 +13,14 @@ use std::fs;
 use std::io::ErrorKind;
 use std::rt::HostRuntime;
 
-/// Checks that workers may begin in this folder. Makes it if it is missing, once it is known that
-/// the jobs' file can be that of a run; with `into` under its own name. The folder above is synced,
-/// made or found: whoever made this one may have been killed before that.
+/// Checks that workers may begin in this folder. Makes it if it is missing, once the jobs' file is
+/// known to be one that a run can have. With `into` it gives the folder its own name. It syncs the
+/// folder above, made or found, since a process that made this one may have been killed before
+/// that.
 ///
 /// # Errors
-/// Those by which a folder is refused, and `Write` for what can't be made.
+///
+/// The faults of a refused folder, and `Write` if something can't be made.
 pub fn open(
     rt: HostRuntime,
     setting: &Setting<'_>,
@@ -62,10 +64,11 @@ fn make(
     }
 }
 
-/// Checks that a worker may begin in this folder, and makes nothing. The folder above is synced.
+/// Checks that a worker may begin in this folder, and makes nothing. It syncs the folder above.
 ///
 /// # Errors
-/// Those by which a folder is refused.
+///
+/// The faults of a refused folder.
 pub fn enter(rt: HostRuntime, setting: &Setting<'_>) -> Result<(), Fault> {
     look_at(rt, setting)?;
     check_kept(rt, setting)?;
@@ -76,7 +79,8 @@ pub fn enter(rt: HostRuntime, setting: &Setting<'_>) -> Result<(), Fault> {
 /// Checks that the folder is a run's, so that answers may be written there.
 ///
 /// # Errors
-/// Those by which a folder is refused.
+///
+/// The faults of a refused folder.
 pub fn look_to_write(rt: HostRuntime, setting: &Setting<'_>) -> Result<(), Fault> {
     look_at(rt, setting)?;
     check_id(rt, setting)?;
@@ -86,7 +90,8 @@ pub fn look_to_write(rt: HostRuntime, setting: &Setting<'_>) -> Result<(), Fault
 /// Checks that the folder can be read as a run's, and returns how it was made.
 ///
 /// # Errors
-/// Those by which a folder is refused.
+///
+/// The faults of a refused folder.
 pub fn look_to_read(rt: HostRuntime, setting: &Setting<'_>) -> Result<Age, Fault> {
     look_at(rt, setting)?;
     if has_id(rt, setting)? {
@@ -128,7 +133,11 @@ fn check_folder(rt: HostRuntime, setting: &Setting<'_>) -> Result<(), Fault> {
     check_file_system(rt, setting, setting.run)
 }
 
-/// Returns true if the jobs' file can be that of this run.
+/// Checks that the jobs' file can be that of this run.
+///
+/// # Errors
+///
+/// The fault of a jobs' file that can't be, or of a file that can't be read.
 pub fn check_jobs(
     rt: HostRuntime,
     setting: &Setting<'_>,
@@ -142,6 +151,10 @@ pub fn check_jobs(
 }
 
 /// Returns true if something has the folder's name, a link that leads nowhere too.
+///
+/// # Errors
+///
+/// `Read` if the name can't be looked up.
 pub fn is_there(rt: HostRuntime, setting: &Setting<'_>) -> Result<bool, Fault> {
     match fs::symlink_metadata(&rt, setting.run) {
         Ok(_) => Ok(true),
@@ -150,7 +163,7 @@ pub fn is_there(rt: HostRuntime, setting: &Setting<'_>) -> Result<bool, Fault> {
     }
 }
 
-/// A record that another version has written is not touched.
+/// Returns a record that another version has written is not touched.
 fn check_version(rt: HostRuntime, setting: &Setting<'_>) -> Result<(), Fault> {
     let Some(bytes) = bytes_of(rt, setting, Item::Record)? else {
         return Ok(());
@@ -164,7 +177,7 @@ fn check_version(rt: HostRuntime, setting: &Setting<'_>) -> Result<(), Fault> {
     Err(Fault::Door(Door::Version))
 }
 
-/// The folder that holds what has this path.
+/// Returns the folder that holds what has this path.
 fn parent_of(path: &str) -> &str {
     match path.rsplit_once('/') {
         Some(("", _)) => "/",

@@ -1,4 +1,4 @@
-//! To make a run's folder: all of its first files, and its id last.
+//! Making of a run's folder: all of its first files, and its id last.
 use crate::admission::{check_jobs, is_there};
 use crate::error::{Fault, Later, had, written};
 use crate::files::{path_of, sync};
@@ -12,7 +12,7 @@ use amo_givens::MAX_WORKERS;
 use std::fs;
 use std::rt::HostRuntime;
 
-/// What a journal without texts holds: a closed gate.
+/// The bytes of a journal without texts: a closed commit byte.
 const NO_TEXTS: &[u8] = b"-";
 
 /// Makes a run's folder that isn't there: whole under another name, and then renamed, so that
@@ -91,7 +91,7 @@ fn put_id(rt: HostRuntime, setting: &Setting<'_>, beside: &str) -> Result<(), Fa
     sync(rt, setting)
 }
 
-/// Makes a journal without texts, if there is none, or one without a byte.
+/// Makes a journal without texts if it is missing or has no byte.
 fn put_empty(
     rt: HostRuntime,
     setting: &Setting<'_>,
@@ -109,7 +109,7 @@ fn put_empty(
     }
 }
 
-/// Makes a file of the run, if there is none.
+/// Makes a file of the run if it is missing.
 fn put(
     rt: HostRuntime,
     setting: &Setting<'_>,

@@ -1,5 +1,5 @@
-//! To look at a run that is refused: what can be read of each file, and what is wrong with it. It
-//! writes nothing, and takes nothing for granted but the run's id.
+//! The view of a run that is refused: the readable part of each file, and its fault. It writes
+//! nothing, and takes nothing for granted but the run's id.
 use crate::error::Fault;
 use crate::identity::{first_checksum, len_of};
 use crate::layout::Item;

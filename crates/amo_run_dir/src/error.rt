@@ -1,4 +1,4 @@
-//! Why a command ends before it has done what it was asked for.
+//! The faults that end a command before its work is done.
 ghost use Rattle.std.specs.Prelude.{◌≡◌};
 ghost use Rattle.amo_run_dir.specs.Statuses.{status_of};
 ghost use Rattle.amo_run_dir.specs.declared.error.Fault.TheVariants.{Memory};
@@ -125,7 +125,7 @@ pub enum Fault {
     /// Nothing more comes from the runner.
     #[error("runner: it has ended, or closed its pipe; start both again to go on")]
     Closed,
-    /// This word holds this value, beside what the others hold.
+    /// This word holds this value, which doesn't fit the values of the others.
     #[error("word {0} has the impossible value {1}; stop all workers, and the next round starts with new words")]
     NoSuchNumber(u64, u64),
     /// The words or the numbers of a round are such that no worker goes on.

@@ -13,13 +13,21 @@ use std::rt::HostRuntime;
 /// How many bytes of a file are read at once.
 const CHUNK: usize = 4096;
 
-/// The path of a file of the run.
+/// Returns the path of a file of the run.
+///
+/// # Errors
+///
+/// `Memory` if there was no memory.
 pub fn path_of(rt: HostRuntime, setting: &Setting<'_>, item: Item) -> Result<String, Fault> {
     let run = setting.run;
     Ok(format!(in rt.alloc(); "{run}/{item}")?)
 }
 
-/// What a file of the run holds, if there is one.
+/// Returns the bytes of a file of the run, or `None` if it is missing.
+///
+/// # Errors
+///
+/// `Read` if the file can't be read, or `Memory` if there was no memory.
 pub fn bytes_of(
     rt: HostRuntime,
     setting: &Setting<'_>,
@@ -47,10 +55,11 @@ pub fn bytes_from(alloc: Global, item: Item, file: &File, start: u64) -> Result<
     Ok(bytes)
 }
 
-/// Opens a file of the run to read and write. The lock of a runner is made if there is none; every
-/// other file was made with the run's id, and is never made again.
+/// Opens a file of the run to read and write. Only the lock of a runner is made if it is missing.
+/// Every other file was made with the run's id, and is never made again.
 ///
 /// # Errors
+///
 /// `Missing` if it isn't there, else `Write`.
 pub fn opened(rt: HostRuntime, setting: &Setting<'_>, item: Item) -> Result<File, Fault> {
     let path = path_of(rt, setting, item)?;
@@ -79,13 +88,22 @@ pub fn opened_to_read(
     }
 }
 
-/// Syncs the folder, made or found: whoever made a file in it may have been killed before that.
+/// Syncs the folder, made or found, since a process that made a file in it may have been killed
+/// before that.
+///
+/// # Errors
+///
+/// `Write` if it can't be synced.
 pub fn sync(rt: HostRuntime, setting: &Setting<'_>) -> Result<(), Fault> {
     written(Item::Run, sync_folder(&rt, setting.run))
 }
 
-/// Puts a file with these bytes in the place of one of the run. With `synced` they are on the disk
-/// when this answers.
+/// Replaces a file of the run by one with these bytes. With `synced` they are on the disk when this
+/// returns.
+///
+/// # Errors
+///
+/// `Write` if that fails.
 pub fn replaced(
     rt: HostRuntime,
     setting: &Setting<'_>,

@@ -1,4 +1,4 @@
-//! To read a run's answers and journals on while others append to them.
+//! Reading of a run's answers and journals while others append to them.
 use crate::error::Fault;
 use crate::follower::Follower;
 use crate::layout::Item;

@@ -1,4 +1,4 @@
-//! Which run a folder is: its id, and the files that were made with it.
+//! The identity of a run's folder: its id, and the files that were made with it.
 use crate::error::{Fault, had};
 use crate::files::{bytes_of, path_of};
 use crate::layout::Item;
@@ -79,6 +79,10 @@ pub fn check_id(rt: HostRuntime, setting: &Setting<'_>) -> Result<(), Fault> {
 
 /// Returns the fault of a folder that has no id: it was made by version 0.1.0, or has lost its id,
 /// or isn't a run's.
+///
+/// # Errors
+///
+/// The fault that kept it from looking.
 pub fn no_id(rt: HostRuntime, setting: &Setting<'_>) -> Result<Fault, Fault> {
     match bytes_of(rt, setting, Item::Record)? {
         Some(bytes) if bytes.starts_with(b"amo-run 2\n") => Ok(Fault::Missing(Item::Id)),

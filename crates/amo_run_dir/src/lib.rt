@@ -1,7 +1,15 @@
-//! The folder of a run: its files by name, its identity, how it is made and admitted, its locks,
-//! its journals and registers, and how a round is begun and joined. Start with `admission`. What is
-//! decided is decided by the crates below; this one opens, locks, reads and writes the files in the
-//! order that the promises rest on.
+//! The folder of a run: its files by name, its identity, its admission check, its locks, and its
+//! journals and registers.
+//!
+//! Start at `admission`. The crates below make the decisions. This crate opens, locks, reads and
+//! writes the files in the order that the promises rest on.
+//!
+//! | here | in the glossary |
+//! |---|---|
+//! | words | registers |
+//! | record, last file of a round | round header |
+//! | text of a journal | append |
+//! | door | admission check |
 #![tactic(auto)]
 
 mod admission;

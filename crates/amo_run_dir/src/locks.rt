@@ -21,7 +21,12 @@ const TRIES: u32 = 100;
 /// The pause between two tries, in milliseconds.
 const PAUSE: u64 = 20;
 
-/// Takes the exclusive lock on a file of the run. Returns `None` if another process has a lock.
+/// Takes the exclusive lock on a file of the run. Returns `None` if another process has a lock. It
+/// doesn't wait.
+///
+/// # Errors
+///
+/// The fault of a file that can't be opened or locked.
 pub fn lock_of(rt: HostRuntime, setting: &Setting<'_>, item: Item) -> Result<Option<File>, Fault> {
     let file = opened(rt, setting, item)?;
     if !written(item, try_exclusive(&file))? {
@@ -47,7 +52,11 @@ pub(crate) fn lock_within(
 }
 
 /// Takes a shared lock on a file of the run, by a new handle. Returns `None` if another process has
-/// the exclusive lock.
+/// the exclusive lock. It doesn't wait.
+///
+/// # Errors
+///
+/// The fault of a file that can't be opened or locked.
 pub fn shared_lock_of(
     rt: HostRuntime,
     setting: &Setting<'_>,

@@ -1,4 +1,4 @@
-//! To read the journals of a run: each by its checksums, and by what the last round's header
+//! Reading of the journals of a run: each by its checksums, and by what the last round's header
 //! counts.
 ghost use Rattle.std.specs.Prelude.{◌≡◌, ◌<◌, ◌≤◌, IfNone, IfSome, IfOk, IfErr, option_map};
 ghost use Rattle.amo_journal.specs.Appends.{IsLog};

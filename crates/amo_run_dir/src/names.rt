@@ -1,8 +1,8 @@
-//! Which names in a folder are those of a run's files.
+//! The names of a run's files.
 ghost use Rattle.std.specs.Prelude.{◌≡◌, option_map};
 ghost use Rattle.amo_run_dir.specs.Names.{behind, behind_digits, first_refused, fits, is_beside, is_digit, is_first, is_hex, is_high_journal, is_id, is_low_journal, is_numbered, is_plain, is_refused, kind_of};
 
-/// What a name in a folder is.
+/// The kind of a name in a folder.
 #[derive(Clone, Copy, PartialEq, Eq)]
 pub enum Kind {
     /// The user's, or `door.X.new`, which a door that was cut off leaves.
@@ -22,7 +22,7 @@ pub struct Named {
     pub len: Option<u64>,
 }
 
-/// Returns what a name in a folder is.
+/// Returns the kind of a name in a folder.
 pub fn kind_of(name: &[u8]) -> Kind
     ensures { result ≡ kind_of name.now }
 {
@@ -35,7 +35,7 @@ pub fn kind_of(name: &[u8]) -> Kind
     }
 }
 
-/// Returns whether a door makes a file of this name before it makes the id.
+/// Returns true if a door makes a file of this name before it makes the id.
 fn is_first(name: &[u8]) -> bool
     ensures { result ≡ is_first name.now }
 {
@@ -45,7 +45,7 @@ fn is_first(name: &[u8]) -> bool
         || is_high_journal(name)
 }
 
-/// Returns whether this is the name of the journal of a worker, 1 to 8.
+/// Returns true if this is the name of the journal of a worker, 1 to 8.
 fn is_low_journal(name: &[u8]) -> bool
     ensures { result ≡ is_low_journal name.now }
 {
@@ -59,7 +59,7 @@ fn is_low_journal(name: &[u8]) -> bool
         || name == b"journal.8".as_slice()
 }
 
-/// Returns whether this is the name of the journal of a worker, 9 to 16.
+/// Returns true if this is the name of the journal of a worker, 9 to 16.
 fn is_high_journal(name: &[u8]) -> bool
     ensures { result ≡ is_high_journal name.now }
 {
@@ -73,7 +73,7 @@ fn is_high_journal(name: &[u8]) -> bool
         || name == b"journal.16".as_slice()
 }
 
-/// Returns whether this is another name that amo gives, without a number.
+/// Returns true if this is another name that amo gives, without a number.
 fn is_plain(name: &[u8]) -> bool
     ensures { result ≡ is_plain name.now }
 {
@@ -86,7 +86,7 @@ fn is_plain(name: &[u8]) -> bool
         || name == b"crew".as_slice()
 }
 
-/// Returns whether this is the name of a file that is put in the place of another, or is locked.
+/// Returns true if this is the name of a file that replaces another, or is locked.
 fn is_beside(name: &[u8]) -> bool
     ensures { result ≡ is_beside name.now }
 {
@@ -98,7 +98,7 @@ fn is_beside(name: &[u8]) -> bool
         || name == b"command.new".as_slice()
 }
 
-/// Returns whether amo gives a file this name with one number or two.
+/// Returns true if amo gives a file this name with one number or two.
 fn is_numbered(name: &[u8]) -> bool
     ensures { result ≡ is_numbered name.now }
 {
@@ -112,7 +112,7 @@ fn is_numbered(name: &[u8]) -> bool
         || fits(b"chunk.#.new", name)
 }
 
-/// Returns whether a name is one of a pattern's, in which `#` stands for one digit or more.
+/// Returns true if the pattern has this name; `#` stands for one digit or more.
 fn fits(pattern: &[u8], name: &[u8]) -> bool
     ensures { result ≡ fits pattern.now name.now }
 {
@@ -126,7 +126,7 @@ fn fits(pattern: &[u8], name: &[u8]) -> bool
     rest.is_empty()
 }
 
-/// Returns what stands behind one byte of a pattern.
+/// Returns the bytes after one byte of a pattern.
 fn behind(byte: u8, name: &[u8]) -> Option<&[u8]>
     ensures { option_map (λ rest. rest.now) result ≡ behind byte name.now }
 {
@@ -152,7 +152,7 @@ fn is_digit(byte: u8) -> bool
     b'0' <= byte && byte <= b'9'
 }
 
-/// Returns what stands behind the digits at the front.
+/// Returns the bytes after the digits at the front.
 fn behind_digits(name: &[u8]) -> &[u8]
     ensures { result.now ≡ behind_digits name.now }
 {
@@ -164,8 +164,8 @@ fn behind_digits(name: &[u8]) -> &[u8]
     &[]
 }
 
-/// Returns the first file by which a folder can't be that of a new run: one that a door makes later
-/// than the others or never, or an earlier one that has more than a byte.
+/// Returns the first file by which a folder can't be that of a new run. A door makes such a file
+/// later than the others or never, or it is an earlier one that has more than a byte.
 pub fn first_refused(found: &[Named]) -> Option<&Named>
     ensures { option_map (λ file. file.now) result ≡ first_refused found.now }
 {
@@ -187,7 +187,7 @@ fn is_refused(kind: Kind, len: Option<u64>) -> bool
     }
 }
 
-/// Returns whether this is the text of an id: 32 hexadecimal digits, no letter a capital.
+/// Returns true if this is the text of an id: 32 hexadecimal digits, no letter a capital.
 pub fn is_id(text: &[u8]) -> bool
     ensures { result ≡ is_id text.now }
 {

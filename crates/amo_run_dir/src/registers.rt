@@ -12,8 +12,8 @@ use std::io::ErrorKind;
 use std::os::unix::fs::FileExt;
 use std::rt::HostRuntime;
 
-/// No round has a word beyond this one: it has word 0, and of each worker an announcement, a claim,
-/// and a row with an entry more than it has jobs.
+/// The number of the last word that a round may have. A round has word 0, and for each worker an
+/// announcement, a claim, and a row with one entry more than it has jobs.
 const MOST_WORDS: u64 = MAX_WORKERS as u64 * (MAX_JOBS as u64 + 3) + 1;
 
 /// The words, by the file that has them.
@@ -24,6 +24,10 @@ pub struct Words {
 
 impl Words {
     /// Opens the words, if there are any.
+    ///
+    /// # Errors
+    ///
+    /// The fault of a file that can't be opened.
     pub fn open(rt: HostRuntime, setting: &Setting<'_>) -> Result<Option<Words>, Fault> {
         let path = path_of(rt, setting, Item::Words)?;
         match open_private(&rt, path.as_str()) {
@@ -33,8 +37,12 @@ impl Words {
         }
     }
 
-    /// The first bytes of the file, as many as `front` has, and how long it is; or nothing where it
-    /// is shorter.
+    /// Reads the first bytes of the file into `front`, and returns the length of the file. Returns
+    /// `None` if the file is shorter than `front`.
+    ///
+    /// # Errors
+    ///
+    /// The fault of a file that can't be read.
     pub fn front(&self, front: &mut [u8]) -> Result<Option<u64>, Fault> {
         let len = had(Item::Words, self.file.metadata())?.len();
         if len < front.len() as u64 {
@@ -44,7 +52,11 @@ impl Words {
         Ok(Some(len))
     }
 
-    /// The value of a word.
+    /// Returns the value of a word.
+    ///
+    /// # Errors
+    ///
+    /// The fault of a file that can't be read.
     pub fn load(&self, word: u64) -> Result<u64, Fault> {
         if word > MOST_WORDS {
             return Err(Fault::NoWay);
@@ -55,6 +67,10 @@ impl Words {
     }
 
     /// Gives a word a value.
+    ///
+    /// # Errors
+    ///
+    /// The fault of a file that can't be written.
     pub fn store(&self, word: u64, value: u64) -> Result<(), Fault> {
         if word > MOST_WORDS {
             return Err(Fault::NoWay);

@@ -72,7 +72,7 @@ byte_there known file i text lt is begins = (
   sym (get_or-take (length text) file i 0 lt) ∙ ap (λ (t : List ℕ). get_or t i 0) (begins ∙ is) ∙ get_or-take (length text) known i 0 lt,
 )
 
--- where the byte is missing or another, the line isn't there, and so what is known isn't
+-- if the byte is missing or another, the line isn't there, and so the known bytes aren't
 module _ (known file : List ℕ) (i : ℕ) (there : i < length known) (differs : i < length file → get_or file i 0 ≢ get_or known i 0) where
   pub isnt_there : (line : ℕ) → line ≡ line_feeds (take i known) + 1 → ¬ (BeginsWith (first_lines line known) file)
   isnt_there line is begins =

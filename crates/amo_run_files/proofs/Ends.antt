@@ -7,7 +7,7 @@ use Rattle.amo_run_log.proofs.Words.{equal, not_equal}
 use Rattle.amo_run_files.specs.Lines.{lines_from, lines_in, remainder_in, ends_of}
 use Rattle.amo_run_files.proofs.Cuts.{lines_end, lines_on, whole}
 
--- where the lines end that are read from here on; so far this many bytes were read
+-- the ends of the lines that are read from here on; so far this many bytes were read
 abbrev pub ends_from : ℕ → List ℕ → List ℕ
 ends_from i [] = []
 ends_from i (b ∷ bytes) = cond (b == 10) ((i + 1) ∷ ends_from (i + 1) bytes) (ends_from (i + 1) bytes)
@@ -51,7 +51,7 @@ end_from n (line ∷ lines) (suc i) d lt =
 pub end_at : (lines : List (List ℕ)) (i d : ℕ) → i < length lines → get_or (ends_of 0 lines) i d ≡ length (ended (take (suc i) lines))
 end_at lines i d lt = omega (arith, end_from 0 lines i d lt)
 
--- the line before it ends where it begins
+-- the end of the line before it is its beginning
 pub begin_at : (lines : List (List ℕ)) (i d : ℕ) → 0 < i → i ≤ length lines → get_or (ends_of 0 lines) (i - 1) d ≡ length (ended (take i lines))
 begin_at lines zero d some le = absurd (omega arith)
 begin_at lines (suc i) d some le =

@@ -1,4 +1,4 @@
--- What is kept of jobs.
+-- The copy of the job list that a run keeps.
 use Rattle.std.proofs.Common.{◌≡◌, ℕ, zero, suc, ◌-◌, ◌<◌, ◌≤◌, Bool, false, List, [], ◌++◌, length, get_or, take, Some, None, sym, ap, subst, ◌∙◌, arith, append-nil}
 use Rattle.std.proofs.lemmas.Option.{slice_get-get_or, slice_get_past}
 use Rattle.amo_run_log.specs.Texts.{ended}

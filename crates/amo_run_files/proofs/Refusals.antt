@@ -34,7 +34,7 @@ skip false x o h = (refl, h)
 skipped : {A : Type 0} (t : Bool) (x : A) (o : Option A) → t ≡ false → o ≡ None → cond t (Some x) o ≡ None
 skipped t x o f none = ap (λ (s : Bool). cond s (Some x) o) f ∙ none
 
--- a line by itself
+-- a line on its own
 
 pub lacks_byte : (c : ℕ) (line : List ℕ) → has_byte c line ≡ false → Lacks c line
 lacks_byte c [] h = tt
@@ -147,7 +147,7 @@ module _ (file : List ℕ) (cut : Bool) where
     λ k lt. at_line k (omega arith) ∙ stand k (omega arith),
   )
 
--- where nothing is cut off, there is no remainder
+-- if nothing is cut off, there is no remainder
 pub no_remainder : (lines : List (List ℕ)) (rest : List ℕ) → why_remainder lines rest false ≡ None → rest ≡ []
 no_remainder lines [] h = refl
 no_remainder lines (b ∷ rest) h =

@@ -14,7 +14,8 @@ head_lines r =
 abbrev pub head_text : RecordView → List ℕ
 head_text r = ended (head_lines r)
 
--- a text with blanks behind it, and a line feed as the last byte of a head, if it has fewer bytes than that
+-- the text, with blanks after it and a line feed as the last byte of a head, if it has fewer bytes
+-- than that
 abbrev pub filled_up : List ℕ → Option (List ℕ)
 filled_up text = if nat_lt (length text) HEAD_LEN then Some (text ++ (replicate (HEAD_LEN - 1 - length text) 32 ++ 10 ∷ [])) else None
 

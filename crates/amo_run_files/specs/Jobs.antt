@@ -1,4 +1,4 @@
--- What jobs are: lines, each of them text, no two of them equal.
+-- Job lists: lines, each of them text, no two of them equal.
 use Rattle.std.specs.Prelude.{◌≡◌, ◌≢◌, ℕ, zero, suc, ◌<◌, ◌≤◌, List, [], length, Option, None, slice_get, All, AllPairs, IsUtf8}
 use Rattle.std.specs.List.{AllByRecursion}
 use Rattle.amo_run_files.specs.declared.known.TheConstants.{MAX_LINE}

@@ -1,4 +1,4 @@
--- The lines of a file: each stands before a line feed. What stands behind the last line feed has no end yet.
+-- The lines of a file. A line feed ends each. The bytes after the last line feed have no end yet.
 use Rattle.std.specs.Prelude.{◌≡◌, ℕ, zero, suc, ◌+◌, List, [], ◌∷◌, ◌++◌, length, take, ◌==◌, if◌then◌else◌}
 
 -- the lines from here on; of the first this much was read before
@@ -6,7 +6,7 @@ abbrev pub lines_from : List ℕ → List ℕ → List (List ℕ)
 lines_from begun [] = []
 lines_from begun (b ∷ bytes) = if b == 10 then begun ∷ lines_from [] bytes else lines_from (begun ++ b ∷ []) bytes
 
--- what stands behind the last line feed from here on
+-- the bytes after the last line feed from here on
 abbrev pub remainder_from : List ℕ → List ℕ → List ℕ
 remainder_from begun [] = begun
 remainder_from begun (b ∷ bytes) = if b == 10 then remainder_from [] bytes else remainder_from (begun ++ b ∷ []) bytes
@@ -15,16 +15,16 @@ remainder_from begun (b ∷ bytes) = if b == 10 then remainder_from [] bytes els
 abbrev pub lines_in : List ℕ → List (List ℕ)
 lines_in file = lines_from [] file
 
--- what stands behind the last line feed of a file: a line without its end, or nothing
+-- the bytes after the last line feed of a file: a line without its end, or nothing
 abbrev pub remainder_in : List ℕ → List ℕ
 remainder_in file = remainder_from [] file
 
--- where each of these lines ends, behind its line feed, if the first begins here
+-- the end of each of these lines, after its line feed, if the first begins here
 abbrev pub ends_of : ℕ → List (List ℕ) → List ℕ
 ends_of start [] = []
 ends_of start (line ∷ lines) = (start + length line + 1) ∷ ends_of (start + length line + 1) lines
 
--- so many lines at the front of a file, with their ends, where they have one
+-- so many lines at the front of a file, with their ends, if they have one
 abbrev pub first_lines : ℕ → List ℕ → List ℕ
 first_lines zero file = []
 first_lines (suc count) [] = []

@@ -60,7 +60,7 @@ texts_from [] [] = Some []
 texts_from [] (b ∷ begun) = None
 texts_from (b ∷ bs) begun = if b == 10 then option_map (λ texts. begun ∷ texts) (texts_from bs []) else texts_from bs (begun ++ b ∷ [])
 
--- what stands behind this label
+-- the bytes after this label
 abbrev pub labelled : List ℕ → List ℕ → Option (List ℕ)
 labelled label text = if bytes_eq (take (length label) text) label then Some (drop (length label) text) else None
 
@@ -76,7 +76,7 @@ head_in round givens workers =
 abbrev pub if_sound : RecordView → Option RecordView
 if_sound r = if is_sound r then Some r else None
 
--- the record that these texts say, behind that of the version
+-- the record that these texts say, after the text of the version
 abbrev pub record_behind : List ℕ → List ℕ → List ℕ → List ℕ → List (List ℕ) → Option RecordView
 record_behind round boot givens workers lines =
     option_and_then (λ h. option_and_then (λ b. option_and_then (λ ls. if_sound (record { round = h.0; boot = b; givens = h.1; workers = h.2; first = h.3; lines = ls }))

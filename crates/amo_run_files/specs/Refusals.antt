@@ -24,16 +24,18 @@ wrong_with line =
     else (if nat_lt MAX_LINE (length line) then Some TooLong
     else None))))
 
--- why a line may not stand behind these lines, if it may not
+-- the reason that a line may not follow these lines, if it may not
 abbrev pub why_not : List (List ℕ) → List ℕ → Option Why
 why_not before line = option_or (wrong_with line) (if list_any (bytes_eq line) before then Some Repeated else None)
 
--- why what stands behind the last line feed, and behind these lines, is refused, if it is: it has no end, after what else is wrong
--- with it; but not if it is nothing, or cut off
+-- the reason that the bytes after the last line feed, and after these lines, are refused, if they
+-- are. They have no end, unless something else is wrong with them. They are not refused if they are
+-- empty or cut off
 abbrev pub why_remainder : List (List ℕ) → List ℕ → Bool → Option Why
 why_remainder lines rest cut = if cut || (length rest == 0) then None else option_or (why_not lines rest) (Some NoEnd)
 
--- why the line at this index of a file is refused, if it is; behind the last line stands the remainder
+-- the reason that the line at this index of a file is refused, if it is; the remainder follows the
+-- last line
 abbrev pub why_at : List ℕ → Bool → ℕ → Option Why
 why_at file cut k =
     if nat_lt k (length (lines_in file)) then why_not (take k (lines_in file)) (slice_index_or (lines_in file) k [])
@@ -49,7 +51,7 @@ IsRefused file cut Memory = Unit {0}
 IsRefused file cut (Refused number why) =
     (1 ≤ number) × (number - 1 ≤ length (lines_in file)) × (why_at file cut (number - 1) ≡ Some why) × ((k : ℕ) → k < number - 1 → why_at file cut k ≡ None)
 
--- each line may stand behind those before it
+-- each line may follow those before it
 abbrev pub MayStand : List (List ℕ) → Type 0
 MayStand lines = (k : ℕ) → k < length lines → why_not (take k lines) (slice_index_or lines k []) ≡ None
 

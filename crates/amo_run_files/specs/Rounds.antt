@@ -22,7 +22,7 @@ givens_of jobs workers beta = record { jobs = jobs; workers = shared_by jobs wor
 abbrev pub turn_of : ℕ → ℕ → ℕ → ℕ
 turn_of worker first workers = if nat_le first worker then (worker - first) + 1 else ((worker + workers) - first) + 1
 
--- as which number a worker acts in a round that so many share
+-- the participant number of a worker in a round that so many share
 abbrev pub seat_of : ℕ → ℕ → ℕ → ℕ → Option ℕ
 seat_of worker first workers shared =
     if (nat_le 1 worker && nat_le worker workers) && nat_le (turn_of worker first workers) shared then Some (turn_of worker first workers) else None

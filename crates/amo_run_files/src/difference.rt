@@ -1,9 +1,9 @@
-//! Whether a jobs' file has only grown.
+//! Comparison of a jobs' file with an older copy.
 ghost use Rattle.std.specs.Prelude.{◌≡◌, ◌-◌, ◌≤◌, IfSome, IfNone};
 ghost use Rattle.amo_run_files.specs.Lines.{first_lines, BeginsWith};
 
-/// Returns true if the file begins with what is known, byte for byte: then `None`. Else the number,
-/// from 1, of the first line of what is known that isn't there as it was.
+/// Returns `None` if the file begins with the known bytes. Otherwise it returns the number, from 1,
+/// of the first known line that isn't there as it was.
 pub fn first_difference(known: &[u8], file: &[u8]) -> Option<usize>
     ensures none { IfNone result (BeginsWith known.now file.now) }
     ensures some { IfSome result (λ _. ¬ (BeginsWith known.now file.now)) }

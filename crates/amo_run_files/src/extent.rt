@@ -1,4 +1,4 @@
-//! How much of a file was on the disk when a round began.
+//! Extents: how much of a file was on the disk when a round began.
 ghost use Rattle.std.specs.Prelude.{◌≡◌, ◌++◌, ◌∷◌, [], ◌<◌, ◌==◌, length, position, IfOk, IfSome, OnOk, option_map, codes, ℕ, List};
 ghost use Rattle.sha2.specs.Hashers.{Holds256};
 ghost use Rattle.amo_run_files.specs.Extents.{extent_said, text_of_extent, words_in, extent_in, digest_of, extent_of_jobs, is_front};
@@ -75,7 +75,8 @@ impl Extent {
         })
     }
 
-    /// Returns true if the bytes begin with so many that have this digest.
+    /// Returns true if the bytes begin with as many bytes as the extent has, and these have its
+    /// digest.
     pub fn is_front_of(&self, bytes: &[u8]) -> bool
         ensures { result ≡ is_front (extent_said self.now) bytes.now }
     {
@@ -124,7 +125,7 @@ pub fn jobs_digest(bytes: &[u8]) -> [u8; 64]
     digits_of(hasher)
 }
 
-/// Returns the hex digits of the SHA-256 of what the hasher holds, in lower case.
+/// Returns the hex digits of the hasher's SHA-256, in lower case.
 pub(crate) fn digits_of(hasher: Sha256) -> [u8; 64]
     ensures { (m : List ℕ) → Holds256 hasher m → result ≡ digest_of m }
 {

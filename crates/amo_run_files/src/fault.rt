@@ -1,4 +1,4 @@
-//! Why a jobs' file is refused.
+//! The faults for which a jobs' file is refused.
 ghost use Rattle.std.specs.Prelude.{◌≡◌};
 ghost use Rattle.amo_run_files.specs.declared.fault.JobsFault.TheVariants.{Memory};
 
@@ -26,7 +26,7 @@ pub enum Why {
     /// A line before it is the same.
     #[error("is equal to a line before it; remove it, or make the two differ")]
     Repeated,
-    /// No line feed stands behind it: its writer may be at it.
+    /// The line has no line feed at its end: its writer may not be done yet.
     #[error("has no line feed at its end; add one once the line is whole")]
     NoEnd,
 }

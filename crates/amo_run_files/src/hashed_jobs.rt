@@ -54,14 +54,15 @@ impl HashedJobs {
         &self.jobs
     }
 
-    /// Takes the jobs of a jobs' file as [`Jobs::read`] does, in place of those that it had. Lines
-    /// are checked only if the file has others than those, and hashed again only if it doesn't
-    /// begin with what was hashed.
+    /// Takes the jobs of a jobs' file as [`Jobs::read`] does, in place of those that it had. It
+    /// checks lines only if the file has others than those. It hashes lines again only if the file
+    /// doesn't begin with the bytes that it has hashed.
     ///
     /// # Errors
-    /// As [`Jobs::read`]. The jobs stay as they were.
+    ///
+    /// The errors of [`Jobs::read`]. The jobs stay as they were.
     pub fn read_again(&mut self, alloc: Global, bytes: Vec<u8>, cut: bool) -> Result<(), JobsFault>
-        // The file is taken just if no line is refused. The fault names the first that is refused.
+        // The file is taken exactly if no line is refused. The fault names the first refused line.
         ensures taken { OnOk result (IsTaken bytes.items cut) }
         ensures refused { IfErr result (IsRefused bytes.items cut) }
 
@@ -95,10 +96,11 @@ impl HashedJobs {
         Extent::with_digest(alloc, len as u64, &digest)
     }
 
-    /// Returns true if the jobs begin with so many bytes as the extent says, and these have its
+    /// Returns true if the jobs begin with as many bytes as the extent has, and these have its
     /// digest. Bytes that were hashed before aren't hashed again, unless the extent has fewer.
     ///
     /// # Errors
+    ///
     /// `AllocError` if there was no memory.
     pub fn begin_with(&mut self, extent: &Extent) -> Result<bool, AllocError>
         ensures exact { IfOk result (λ begin. begin ≡ is_front (extent_said extent.now) (ended self.old)) }

@@ -11,9 +11,13 @@ use std::alloc::{AllocError, Global};
 /// How many bytes stand before the first word.
 pub(crate) const HEAD_LEN: usize = 512;
 
-/// The `HEAD_LEN` bytes at the front of the words of the round that has this record: which round it
-/// is of, and behind it blanks and a line feed. `None` where the boot id is so long that it doesn't
-/// fit.
+/// Returns the `HEAD_LEN` bytes at the front of the words of the round with this header. They name
+/// the round. Blanks and a line feed follow. Returns `None` if the boot id is so long that it
+/// doesn't fit.
+///
+/// # Errors
+///
+/// `AllocError` if there was no memory.
 pub fn head_of(alloc: Global, recorded: &RoundHeader) -> Result<Option<Vec<u8>>, AllocError>
     ensures exact { IfOk result (λ head. option_map (λ bytes. bytes.items) head ≡ head_of (said_by recorded.now)) }
     ensures size { IfOk result (λ head. IfSome head (λ bytes. length bytes.items ≡ HEAD_LEN)) }
@@ -22,7 +26,7 @@ pub fn head_of(alloc: Global, recorded: &RoundHeader) -> Result<Option<Vec<u8>>,
     filled_up(text)
 }
 
-/// The lines at the front of the head.
+/// Returns the lines at the front of the head.
 fn head_text(alloc: Global, recorded: &RoundHeader) -> Result<Vec<u8>, AllocError>
     ensures { IfOk result (λ text. text.items ≡ head_text (said_by recorded.now)) }
 {
@@ -40,7 +44,7 @@ fn head_text(alloc: Global, recorded: &RoundHeader) -> Result<Vec<u8>, AllocErro
     Ok(text)
 }
 
-/// The text, with blanks and a line feed behind it, if they have room.
+/// Returns the text, with blanks and a line feed after it, if they have room.
 fn filled_up(mut text: Vec<u8>) -> Result<Option<Vec<u8>>, AllocError>
     ensures exact { IfOk result (λ head. option_map (λ bytes. bytes.items) head ≡ filled_up text.items) }
     ensures size { IfOk result (λ head. IfSome head (λ bytes. length bytes.items ≡ HEAD_LEN)) }

@@ -14,7 +14,7 @@ use amo_run_log::{three_of_bytes, two_of_bytes};
 use std::alloc::{AllocError, Global};
 use std::mem;
 
-/// What is recorded of a round when it is begun.
+/// `RoundHeader`: the record of a round when it is begun.
 #[derive(Debug, PartialEq, Eq, Drop)]
 pub struct RoundHeader {
     /// Rounds are counted from 1.
@@ -25,7 +25,7 @@ pub struct RoundHeader {
     pub givens: RoundParams,
     /// How many workers there may be, 1 to 16.
     pub workers: u64,
-    /// The worker who began the round.
+    /// The worker that began the round.
     pub first: u64,
     /// The line of each job, from job 1 on.
     pub lines: Vec<u64>,
@@ -44,7 +44,7 @@ impl RoundHeader {
         Ok(text)
     }
 
-    /// The line of this job.
+    /// Returns the line of this job.
     pub fn line_of(&self, job: usize) -> u64
         requires job { (1 ≤ job) × (job ≤ length self.now.lines.items) }
         ensures { result ≡ slice_index_or self.now.lines.items (job - 1) 0 }
@@ -52,7 +52,7 @@ impl RoundHeader {
         self.lines[job - 1]
     }
 
-    /// The texts before those of the lines.
+    /// Returns the texts before those of the lines.
     fn print_head(&self, alloc: Global) -> Result<Vec<u8>, AllocError>
         ensures { IfOk result (λ text. text.items ++ ended (map (λ line. decimal line) self.now.lines.items) ≡ text_of_record (said_by self.now)) }
     {
@@ -91,7 +91,7 @@ pub(crate) fn push(text: &mut Vec<u8>, line: &[u8]) -> Result<(), AllocError>
     Ok(())
 }
 
-/// The texts of a file in which each ends by a line feed.
+/// Returns the texts of a file in which each ends by a line feed.
 pub(crate) fn texts_of(alloc: Global, bytes: &[u8]) -> Result<Option<Vec<Vec<u8>>>, AllocError>
     ensures { IfOk result (λ found. option_map (λ texts. map (λ text. text.items) texts.items) found ≡ texts_from bytes.now []) }
 {
@@ -112,7 +112,7 @@ pub(crate) fn texts_of(alloc: Global, bytes: &[u8]) -> Result<Option<Vec<Vec<u8>
     }
 }
 
-/// The record that texts say.
+/// Returns the record that texts say.
 pub(crate) fn record_of(alloc: Global, texts: &[Vec<u8>]) -> Result<Option<RoundHeader>, AllocError>
     ensures { IfOk result (λ found. option_map said_by found ≡ record_of (map (λ text. text.items) texts.now)) }
 {
@@ -136,7 +136,7 @@ fn is_version(text: &[u8]) -> bool
     text == b"amo-run 2".as_slice()
 }
 
-/// The record that these texts say, behind that of the version.
+/// Returns the record that these texts say, after the text of the version.
 fn record_behind(
     alloc: Global,
     round: &[u8],
@@ -171,7 +171,7 @@ fn record_behind(
     Ok(Some(record))
 }
 
-/// The text at this index.
+/// Returns the text at this index.
 fn text_at(texts: &[Vec<u8>], i: usize) -> &[u8]
     requires { i < length texts.now }
     ensures { result.now ≡ slice_index_or (map (λ text. text.items) texts.now) i [] }
@@ -179,7 +179,7 @@ fn text_at(texts: &[Vec<u8>], i: usize) -> &[u8]
     &texts[i]
 }
 
-/// The round, the givens, the workers, and the first of them.
+/// Returns the round, the givens, the workers, and the first of them.
 fn head_of(round: &[u8], givens: &[u8], workers: &[u8]) -> Option<(u64, RoundParams, u64, u64)>
     ensures { result ≡ head_in round.now givens.now workers.now }
 {
@@ -194,7 +194,7 @@ fn head_of(round: &[u8], givens: &[u8], workers: &[u8]) -> Option<(u64, RoundPar
     Some((round, givens, workers, first))
 }
 
-/// What stands behind this label.
+/// Returns the bytes after this label.
 fn labelled<'a>(label: &[u8], text: &'a [u8]) -> Option<&'a [u8]>
     ensures { option_map (λ behind. behind.now) result ≡ labelled label.now text.now }
 {
@@ -204,7 +204,7 @@ fn labelled<'a>(label: &[u8], text: &'a [u8]) -> Option<&'a [u8]>
     Some(&text[label.len()..])
 }
 
-/// The numbers that the texts say, if each says one.
+/// Returns the numbers that the texts say, if each says one.
 fn numbers_of(alloc: Global, texts: &[Vec<u8>]) -> Result<Option<Vec<u64>>, AllocError>
     ensures { IfOk result (λ found. option_map (λ numbers. numbers.items) found ≡ read_all number_in (map (λ text. text.items) texts.now)) }
 {

@@ -18,7 +18,7 @@ use std::marker::Model;
 pub struct Jobs {
     /// The lines, each with its line feed.
     bytes: Vec<u8>,
-    /// Where each line ends, behind its line feed.
+    /// The end of each line, after its line feed.
     ends: Vec<usize>,
 }
 
@@ -35,15 +35,21 @@ impl Model for Jobs {
 }
 
 impl Jobs {
-    /// The jobs of a jobs' file. Where `cut` is true, what stands behind its last line feed is left
-    /// out, whatever it is; else the file is refused if anything stands there.
+    /// Returns the jobs of a jobs' file. If `cut` is true, the bytes after its last line feed are
+    /// left out. If it is false, a file with such bytes is refused.
+    ///
+    /// # Errors
+    ///
+    /// `Refused` with the number of the first refused line, and the reason. `Memory` if there was
+    /// no memory.
     pub fn read(alloc: Global, mut bytes: Vec<u8>, cut: bool) -> Result<Jobs, JobsFault>
-        // The file is taken just where no line is refused; else the first that is refused is told.
+        // The file is taken exactly if no line is refused. Otherwise the fault names the first
+        // refused line.
         ensures taken { OnOk result (IsTaken bytes.items cut) }
         ensures refused { IfErr result (IsRefused bytes.items cut) }
 
-        // The jobs are all its lines, and with their ends they are the file but for what was left
-        // out.
+        // The jobs are all its lines. With their ends they are the file, without the bytes that
+        // were left out.
         ensures lines { IfOk result (λ jobs. jobs ≡ lines_in bytes.items) }
         ensures front { IfOk result (λ jobs. ended jobs ++ remainder_in bytes.items ≡ bytes.items) }
         ensures whole { cut ≡ false → IfOk result (λ jobs. ended jobs ≡ bytes.items) }
@@ -69,16 +75,16 @@ impl Jobs {
         is_all_of(&self.bytes, bytes, cut)
     }
 
-    /// How many there are.
+    /// Returns how many there are.
     pub fn count(&self) -> u64
         ensures count { result ≡ length self.now }
-        // What holds of all jobs, wherever they were read.
+        // The facts that hold of all jobs, wherever they were read.
         ensures jobs { AreJobs self.now }
     {
         self.ends.len() as u64
     }
 
-    /// The line of this number, from 1, without its end.
+    /// Returns the line of this number, from 1, without its end.
     pub fn line(&self, number: u64) -> Option<&[u8]>
         ensures { option_map (λ line. line.now) result ≡ line_of self.now number }
     {
@@ -88,7 +94,7 @@ impl Jobs {
         Some(line_at(&self.bytes, &self.ends, (number - 1) as usize))
     }
 
-    /// The lines, each with its line feed behind it.
+    /// Returns the lines, each with its line feed.
     pub fn bytes(&self) -> &[u8]
         ensures { result.now ≡ ended self.now }
     {
@@ -96,7 +102,8 @@ impl Jobs {
     }
 }
 
-/// Returns true if a file is these lines with their ends, and nothing follows but what is cut off.
+/// Returns true if a file is these lines with their ends, and nothing follows but bytes that are
+/// cut off.
 fn is_all_of(lines: &[u8], file: &[u8], cut: bool) -> bool
     ensures { result ≡ is_all_of lines.now file.now cut }
 {

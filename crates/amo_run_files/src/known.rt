@@ -1,4 +1,4 @@
-//! Whether a line may stand behind others.
+//! The check of each line against the lines before it.
 ghost use Rattle.std.specs.Prelude.{◌≡◌, ◌++◌, ◌∷◌, [], ℕ, List, IfOk, IfErr, OnOk, IfNone};
 ghost use Rattle.std.specs.Str.{is_utf8};
 ghost use Rattle.amo_run_files.specs.Known.{HasJust};
@@ -14,8 +14,8 @@ use std::str;
 /// A line with more bytes is refused.
 pub(crate) const MAX_LINE: usize = 100_000;
 
-/// Refuses the first line that may not stand behind those before it. Then what stands behind the
-/// last line feed is refused, unless it is cut off.
+/// Refuses the first line that may not follow those before it. It also refuses bytes after the last
+/// line feed, unless they are cut off.
 pub(crate) fn check(alloc: Global, bytes: &[u8], ends: &[usize], cut: bool) -> Result<(), JobsFault>
     requires { ends.now ≡ ends_of 0 (lines_in bytes.now) }
     ensures taken { OnOk result (IsTaken bytes.now cut) }
@@ -28,8 +28,8 @@ pub(crate) fn check(alloc: Global, bytes: &[u8], ends: &[usize], cut: bool) -> R
     }
 }
 
-/// The lines, if each may stand behind those before it. They are kept in order, not by a hash: so
-/// no lines make it slow.
+/// Returns the lines, if each may follow those before it. They are kept in order, not by a hash: so
+/// no list of lines makes it slow.
 fn known_lines<'a>(
     alloc: Global,
     bytes: &'a [u8],
@@ -50,7 +50,7 @@ fn known_lines<'a>(
     Ok(known)
 }
 
-/// Why what stands behind the last line feed is refused, if it is.
+/// Returns the reason that the bytes after the last line feed are refused, if they are.
 fn why_remainder<'a>(
     known: &mut BTreeSet<&'a [u8]>,
     rest: &'a [u8],
@@ -65,8 +65,8 @@ fn why_remainder<'a>(
     Ok(why.or(Some(Why::NoEnd)))
 }
 
-/// Why the line may not stand behind those that are known, if it may not. If it may, it is known
-/// from now on.
+/// Returns the reason that the line may not follow the known lines, if it may not. If it may, it is
+/// known from now on.
 fn why_not<'a>(known: &mut BTreeSet<&'a [u8]>, line: &'a [u8]) -> Result<Option<Why>, AllocError>
     ensures exact { (before : List (List ℕ)) → HasJust known.old before → IfOk result (λ why. why ≡ why_not before line.now) }
     ensures known { (before : List (List ℕ)) → HasJust known.old before
@@ -82,7 +82,7 @@ fn why_not<'a>(known: &mut BTreeSet<&'a [u8]>, line: &'a [u8]) -> Result<Option<
     Ok(None)
 }
 
-/// What is wrong with the line, whatever stands before it.
+/// Returns the fault of the line, whatever lines stand before it.
 fn wrong_with(line: &[u8]) -> Option<Why>
     ensures { result ≡ wrong_with line.now }
 {

@@ -1,6 +1,16 @@
-//! The files of a round: its record with the givens and the jobs, how much of each file was on the
-//! disk when it began, the job list that the run knows, and the layout of the register file. Start
-//! with `RoundFile` and `Jobs`. The theorems stand in the module `laws`.
+//! The files of a round: its header, the job list that the run knows, and the layout of the
+//! register file.
+//!
+//! Start at [`RoundFile`] and [`Jobs`]. The header has the givens, the open lines and the workers.
+//! It also counts how much of each file was on the disk when the round began. The theorems stand in
+//! the module [`laws`].
+//!
+//! | here | in the glossary |
+//! |---|---|
+//! | record | round header |
+//! | seat | participant number |
+//! | words | registers |
+//! | jobs | job list |
 #![tactic(auto)]
 
 mod count;

@@ -44,7 +44,8 @@ impl RoundFile {
         Ok(text)
     }
 
-    /// Returns what a file says, if it has a record, an extent of each file, and the seal of these.
+    /// Returns the content of a file, if it has a record, an extent of each file, and the seal of
+    /// these.
     ///
     /// # Errors
     ///
@@ -103,7 +104,7 @@ fn seal_line(alloc: Global, first: &Checksum, body: &[u8]) -> Result<Vec<u8>, Al
     Ok(line)
 }
 
-/// Returns what the texts say, the last `EXTENTS` of which are extents.
+/// Returns the content of these texts, the last `EXTENTS` of which are extents.
 fn round_of(alloc: Global, texts: &[Vec<u8>]) -> Result<Option<RoundFile>, AllocError>
     ensures { IfOk result (λ found. option_map file_said found ≡ round_of (map (λ text. text.items) texts.now)) }
 {

@@ -7,7 +7,7 @@ ghost use Rattle.amo_run_files.specs.declared.head.TheConstants.{HEAD_LEN};
 use crate::head::HEAD_LEN;
 use crate::seats::RoundParams;
 
-/// How many bytes the file of the words has: the head, and 8 for each word.
+/// Returns how many bytes the file of the words has: the head, and 8 for each word.
 #[tactic(auto, using(crate::proofs::Counts::few_words))]
 pub fn words_len(givens: &RoundParams) -> u64
     requires few_jobs { givens.now.jobs ≤ MAX_JOBS }
@@ -17,7 +17,7 @@ pub fn words_len(givens: &RoundParams) -> u64
     offset_of(givens.workers * (givens.jobs + 3) + 1)
 }
 
-/// Where the word of this number, from 0, stands in the file.
+/// Returns the place in the file of the word of this number, from 0.
 pub fn offset_of(word: u64) -> u64
     requires { HEAD_LEN + 8 * word < 2 ^ 64 }
     ensures { result ≡ offset_of word }

@@ -1,4 +1,4 @@
-//! Which file a lock or a log is.
+//! The files of locks and logs.
 use amo_host::{LogFile, RunLock};
 use amo_operator::OperatorLock;
 use amo_run_dir::Item;

@@ -1,4 +1,4 @@
-//! Why a call of a host has failed.
+//! The fault of the last call of a host.
 use amo_fs::FileDevice;
 use amo_host::Failed;
 use amo_journal::{AppendError, DeviceError};

@@ -1,4 +1,4 @@
-//! To write to standard output.
+//! Writing to standard output.
 use amo_run_dir::{Fault, Item, written};
 use std::io::Write;
 use std::rt::HostRuntime;

@@ -80,6 +80,10 @@ impl<'a> RunHost<'a> {
     }
 
     /// Returns the runner's last line as a text to print.
+    ///
+    /// # Errors
+    ///
+    /// `AllocError` if there was no memory.
     pub fn reply_text(&self) -> Result<String, AllocError> {
         self.runner.shown()
     }

@@ -10,22 +10,22 @@ ghost use Rattle.amo_run_judge.specs.declared.reason.Reason.{Reason};
 
 use amo_clearance_safety::laws::lines_are_performed_once_by_journals_alone;
 
-/// If a reason is so at a site, the event may not come next there.
+/// States that if a reason is so at a site, the event may not come next there.
 pub fn a_reason_is_against_the_rule()
     ensures { (w : Site) (e : Event) (reason : Reason) → Against w e reason → MayFollow Clearance MAX_WORKERS w e → ⊥ }
 {}
 
-/// A text is the log of at most one list of events.
+/// States that a text is the log of at most one list of events.
 pub fn a_text_is_the_log_of_one_list()
     ensures { (text : List ℕ) (es fs : List Event) → IsLog text es → IsLog text fs → es ≡ fs }
 {}
 
-/// If a text is the log of a run, no other answer is given than that.
+/// States that if a text is the log of a run, no other answer is given than that.
 pub fn a_run_is_called_a_run()
     ensures { (text answer : List ℕ) (es : List Event) → IsLog text es → IsRun Clearance MAX_WORKERS es → IsAnswer text answer → answer ≡ outcome_text (IsARun es) }
 {}
 
-/// In a log of a run no line is performed twice.
+/// States that in a log of a run no line is performed twice.
 pub fn a_run_performs_no_line_twice()
     ensures { (text : List ℕ) (es : List Event) → IsOutcomeOf text (IsARun es) → AreDistinct (map (λ h. h.line) (site_of es).performed) }
 {

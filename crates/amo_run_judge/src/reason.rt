@@ -1,4 +1,4 @@
-//! Why an event may not follow, and what the judge finds.
+//! The reasons why an event may not follow, and the verdicts of the judge.
 
 /// Why an event may not follow the events before it.
 #[derive(Clone, Copy, Debug, PartialEq, Eq)]

@@ -1,4 +1,4 @@
-//! Which events may follow.
+//! The events that may follow.
 ghost use Rattle.std.specs.Prelude.{◌≡◌, ◌+◌, length};
 ghost use Rattle.std.specs.List.{list_any};
 ghost use Rattle.amo_clearance_safety.specs.Model.{Site as SiteShown};

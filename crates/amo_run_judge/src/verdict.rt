@@ -1,4 +1,4 @@
-//! Why a text is no log.
+//! The faults of a text that is not a log.
 
 /// The fault of a line.
 #[derive(Clone, Copy, Debug, PartialEq, Eq)]

@@ -1,4 +1,5 @@
--- What is printed of an entry is read as it, and what is read was printed so.
+-- The text that is printed of an entry is read as that entry, and a text that is read was printed
+-- so.
 use Rattle.std.proofs.Common.{◌≡◌, inl, inr, ℕ, ◌^◌, ◌<◌, Bool, true, false, cond, List, ◌∷◌, ◌++◌, Option, Some, None, refl, sym, ap, subst, ◌∙◌, arith}
 use Rattle.std.specs.Prelude.{nat_lt, codes, option_and_then}
 use Rattle.std.specs.Fmt.{decimal}
@@ -145,6 +146,6 @@ ascii : (e : Entry) → Fits e → IsAscii (text_of e)
 ascii (Intent s l t) f = IsAscii-append (codes "intent ") (decimal s ++ 32 ∷ (decimal l ++ 32 ∷ decimal t)) (ascii_by_test (codes "intent ") refl) (three_ascii s l t f.0 f.1 f.2)
 ascii (Answered s a) f = ascii_answer s a f
 
--- what is no text is no entry
+-- bytes that are not UTF-8 say no entry
 pub no_text : (bytes : List ℕ) → ¬ (IsUtf8 bytes) → None ≡ entry_in bytes
 no_text = no_text_by text_of Fits entry_in entry_printed ascii

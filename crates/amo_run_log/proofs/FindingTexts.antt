@@ -1,4 +1,5 @@
--- What is printed of a finding is read as it, and what is read was printed so.
+-- The text that is printed of a finding is read as that finding, and a text that is read was
+-- printed so.
 use Rattle.std.proofs.Common.{◌≡◌, ⊎_elim, ℕ, ◌^◌, ◌<◌, List, ◌∷◌, ◌++◌, Some, None, refl, sym, ap, subst, ◌∙◌}
 use Rattle.std.specs.Prelude.{codes, option_and_then}
 use Rattle.std.specs.Fmt.{decimal}
@@ -47,6 +48,6 @@ ascii : (v : Resolution) (r : List ℕ) → IsAscii r → IsAscii (word_of v ++ 
 ascii Done r is = IsAscii-append (codes "done ") r (ascii_word Done) is
 ascii NotDone r is = IsAscii-append (codes "not-done ") r (ascii_word NotDone) is
 
--- what is no text is no finding
+-- bytes that are not UTF-8 say no finding
 pub no_text : (bytes : List ℕ) → ¬ (IsUtf8 bytes) → None ≡ finding_in bytes
 no_text = no_text_by text_of_finding FitsFinding finding_in finding_printed (λ f fits. ascii f.verdict _ (three_ascii f.worker f.serial f.time fits.0 fits.1 fits.2))

@@ -1,4 +1,4 @@
--- Entries are read as a journal just where they are one by their grammar.
+-- Entries are read as a journal exactly if they are one by the grammar.
 use Rattle.std.proofs.Common.{◌≡◌, ◌≢◌, inl, inr, ℕ, zero, suc, ◌+◌, ◌<◌, ◌≤◌, Bool, true, false, cond, ◌&&◌, ◌||◌, List, [], ◌∷◌, ◌++◌, length, Option, Some, None, refl, sym, ap, subst, ◌∙◌, arith, length-append}
 use Rattle.std.specs.Prelude.{◌==◌, nat_le, is_some, is_none, option_and_then, option_map}
 use Rattle.std.proofs.lemmas.Bool.{cases_eq, and_from, and_parts}

@@ -1,4 +1,4 @@
--- What an entry more opens in its own journal, and what it doesn't.
+-- The lines that one more entry opens in its own journal, and those that it doesn't.
 use Rattle.std.proofs.Common.{◌≡◌, ◌≢◌, ℕ, zero, suc, ◌+◌, Bool, true, false, cond, ◌&&◌, ◌||◌, List, [], ◌∷◌, ◌++◌, length, Option, Some, None, refl, sym, ap, subst, ◌∙◌, arith}
 use Rattle.std.specs.Prelude.{not, ◌==◌, is_none, option_and_then, option_map}
 use Rattle.std.specs.List.{AllByRecursion}
@@ -21,7 +21,7 @@ is_equal a b h = grind (arith, nat_tests)
 abbrev pub with : Attempt → Outcome → Attempt
 with e a = record e { answer = Some a }
 
--- the first entry is answered where it has none
+-- the first entry is answered if it has no answer
 pub head : (e : Attempt) (es next : List Attempt) (a : Outcome) (o : Option Outcome) → cond (is_none o) (Some (with e a ∷ es)) None ≡ Some next → (o ≡ None) × (with e a ∷ es ≡ next)
 head e es next a None h = (refl, cc)
 head e es next a (Some b) h = absurd (cc)

@@ -1,4 +1,4 @@
--- What a step of a loop over journals has marked.
+-- The marks that a step of a loop over journals leaves.
 use Rattle.std.proofs.Common.{◌≡◌, ℕ, ◌+◌, ◌<◌, Bool, true, false, cond, if◌then◌else◌, ◌||◌, List, [], ◌∷◌, ◌++◌, Vec, Global, Result, Ok, Err, length, get_or, drop, map, refl, sym, ap, ◌∙◌, arith}
 use Rattle.std.specs.List.{filter}
 use Rattle.std.specs.Prelude.{not, IfOk}

@@ -1,4 +1,5 @@
--- What a file of the texts before a put, or after it, says, as entries or findings; and which lines its entries close.
+-- The entries or findings of a file before a put and after it, and the lines that its entries
+-- close.
 use Rattle.std.proofs.Common.{◌≡◌, ◌⊎◌, inl, inr, ⊎_elim, ℕ, ◌+◌, ◌^◌, ◌<◌, false, List, [], ◌∷◌, ◌++◌, length, Option, Some, Result, Ok, Err, refl, sym, ap, subst, ◌∙◌, arith}
 use Rattle.std.specs.Prelude.{codes, option_map, OnOk}
 use Rattle.std.specs.Fmt.{decimal}
@@ -106,7 +107,7 @@ puts_append moment left_since seen old new result append one = record {
   read = λ entries are. let (xs, read, is) = map_some entries_of_appends (appends_in (records_in (seen old))) entries are in stands (seen new) xs entries append is (one.read xs read);
 }
 
--- where nothing was done, only what might have been left before
+-- if nothing was done, only what might have been left before
 pub started : {D : Type 0} (moment : D → ℕ) (left_since : D → ℕ → List ℕ → Type 0) (file : D) (P : List ℕ → Type 0) → ((c : List ℕ) → left_since file (moment file) c → P c) → LeavesOnly moment left_since file file P
 started moment left_since file P now = record { later = omega arith; each = now; before = λ t c le left. inl left }
 

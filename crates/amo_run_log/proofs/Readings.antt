@@ -1,4 +1,5 @@
--- What follows where all that is printed is read, and all that is read was printed so, whatever it is.
+-- Consequences if each printed text is read, and each text that is read was printed so, for any
+-- type.
 use Rattle.std.proofs.Common.{◌≡◌, List, ℕ, Option, Some, None, refl, sym, ap, subst, ◌∙◌}
 use Rattle.std.specs.Prelude.{IfSome, IfNone}
 use Rattle.std.specs.Str.{IsAscii, IsUtf8}
@@ -16,13 +17,13 @@ pub found_by : {A : Type 0} (say : A → List ℕ) (Fits : A → Type 0) (read :
 found_by say Fits read printed text None is = tt
 found_by say Fits read printed text (Some x) is = (printed text x (sym is)).0
 
--- where nothing is found, nothing was printed so
+-- if nothing is found, nothing was printed so
 pub none_by : {A : Type 0} (say : A → List ℕ) (Fits : A → Type 0) (read : List ℕ → Option A) → ((x : A) → Fits x → read (say x) ≡ Some x)
     → (text : List ℕ) (r : Option A) → r ≡ read text → IfNone r ((x : A) → Fits x → say x ≡ text → ⊥)
 none_by say Fits read reads text (Some x) is = tt
 none_by say Fits read reads text None is = λ x fits printed. none_some (is ∙ ap read (sym printed) ∙ reads x fits)
 
--- in what is no text nothing is found, where all that is printed is ASCII
+-- bytes that are not UTF-8 say nothing, if each printed text is ASCII
 pub no_text_by : {A : Type 0} (say : A → List ℕ) (Fits : A → Type 0) (read : List ℕ → Option A) → ((text : List ℕ) (x : A) → read text ≡ Some x → (say x ≡ text) × Fits x) → ((x : A) → Fits x → IsAscii (say x))
     → (bytes : List ℕ) → ¬ (IsUtf8 bytes) → None ≡ read bytes
 no_text_by {A = A} say Fits read printed ascii bytes never = by_case (read bytes) refl

@@ -227,7 +227,7 @@ two_ascii a b fa fb = IsAscii-append (decimal a) (32 ∷ decimal b) (IsAscii-dec
 pub three_ascii : (a b c : ℕ) → a < 2 ^ 64 → b < 2 ^ 64 → c < 2 ^ 64 → IsAscii (decimal a ++ 32 ∷ (decimal b ++ 32 ∷ decimal c))
 three_ascii a b c fa fb fc = IsAscii-append (decimal a) (32 ∷ (decimal b ++ 32 ∷ decimal c)) (IsAscii-decimal a fa) (IsAscii-cons 32 (decimal b ++ 32 ∷ decimal c) (omega arith) (two_ascii b c fb fc))
 
--- what is no text says no two numbers, and no three
+-- bytes that are not UTF-8 say no two numbers, and no three
 pub two_no_text : (bytes : List ℕ) → ¬ (IsUtf8 bytes) → None ≡ two_in bytes
 two_no_text = no_text_by (λ (n : ℕ × ℕ). decimal n.0 ++ 32 ∷ decimal n.1) (λ n. (n.0 < 2 ^ 64) × (n.1 < 2 ^ 64)) two_in (λ text n is. let p = two_printed text n is in (p.0, (p.1, p.2)))
     (λ n fits. two_ascii n.0 n.1 fits.0 fits.1)

@@ -1,4 +1,5 @@
--- What persons found out about intents, as texts: of each worker and serial number whether what was intended was done.
+-- Findings of persons on intents, as texts: for a worker and a serial number, whether the line was
+-- done.
 use Rattle.std.specs.Prelude.{not, slice_get, ◌≡◌, ◌<◌, ◌≤◌, ◌^◌, ◌-◌, ℕ, Bool, true, false, ◌&&◌, ◌==◌, nat_le, List, [], ◌++◌, codes, length, slice_index_or, take, Option, Some, None, option_and_then, if◌then◌else◌}
 use Rattle.std.specs.Fmt.{decimal}
 use Rattle.std.specs.List.{list_any}
@@ -56,11 +57,11 @@ is_undone findings worker serial = list_any (λ f. is_not_done f.verdict && is_o
 abbrev pub is_intent : List (List Attempt) → ℕ → ℕ → Bool
 is_intent journals worker serial = (nat_le 1 worker && nat_le 1 serial) && nat_le serial (length (slice_index_or journals (worker - 1) []))
 
--- whether a finding may stand behind these: it is of an intent of which none of them is
+-- whether a finding may follow these: it is of an intent, and none of them is of that intent
 abbrev pub may_join : List (List Attempt) → List Finding → Finding → Bool
 may_join journals before f = is_intent journals f.worker f.serial && not (list_any (is_of f.worker f.serial) before)
 
--- each finding may stand where it does
+-- each finding may follow those before it
 abbrev pub AreInPlace : List (List Attempt) → List Finding → Type 0
 AreInPlace journals findings = (k : ℕ) (f : Finding) → slice_get findings k ≡ Some f → may_join journals (take k findings) f ≡ true
 

@@ -1,5 +1,6 @@
--- What a journal is, said of its entries alone: the serial numbers of the intents count from 1 without a gap, each intent is of
--- one of the lines 1..count, and each answer belongs to an intent before it that has none.
+-- The grammar of a journal, by its entries alone. The serial numbers of the intents count from 1
+-- without a gap. Each intent is of one of the lines 1..count. Each answer belongs to an intent
+-- before it that has no answer yet.
 use Rattle.std.specs.Prelude.{◌≡◌, ◌≤◌, ℕ, ◌+◌, Bool, false, ◌==◌, ◌||◌, List, [], ◌∷◌, ◌++◌}
 use Rattle.amo_run_log.specs.declared.entry.Entry.{Entry}
 use Rattle.amo_run_log.specs.declared.entry.Entry.TheVariants.{Intent, Answer as Answered}

@@ -44,7 +44,7 @@ abbrev pub NotesOrNot : ℕ → Bool → List Attempt → Entry → List Attempt
 NotesOrNot count true old entry new = noted count old entry ≡ Some new
 NotesOrNot count false old entry new = (noted count old entry ≡ None) × (new ≡ old)
 
--- the entries before the refused one are a journal, and with it they are none
+-- the entries before the refused one are a journal, and with it they are not
 abbrev pub IsRefused : ℕ → List Entry → Fault → Type 0
 IsRefused count entries Memory = Unit {0}
 IsRefused count entries (Refused number) = (1 ≤ number) × (number ≤ length entries) × (journal_of count (take (number - 1) entries) ≢ None) × (journal_of count (take number entries) ≡ None)

@@ -19,7 +19,7 @@ first_word text = before_first (λ b. b == 32) text
 abbrev pub other_words : List ℕ → List ℕ
 other_words text = after_first (λ b. b == 32) text
 
--- what a word says with what stands behind it, one blank between them
+-- the value of a word with its rest, one blank between them
 abbrev pub by_word : {A : Type 0} → (List ℕ → List ℕ → Option A) → List ℕ → Option A
 by_word read text = if has_blank text then read (first_word text) (other_words text) else None
 
@@ -41,7 +41,7 @@ three_in text =
     then option_and_then (λ a. option_and_then (λ bc. Some (a, bc.0, bc.1)) (two_in (other_words text))) (number_in (first_word text))
     else None
 
--- what all the texts say, where each says something
+-- the values of all the texts, if each has a value
 abbrev pub read_all : {A : Type 0} → (List ℕ → Option A) → List (List ℕ) → Option (List A)
 read_all read [] = Some []
 read_all read (text ∷ texts) = option_and_then (λ x. option_map (λ xs. x ∷ xs) (read_all read texts)) (read text)

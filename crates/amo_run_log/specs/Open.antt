@@ -35,7 +35,7 @@ abbrev pub closed_by : List Finding → ℕ → List (List Attempt) → ℕ → 
 closed_by findings worker [] line = false
 closed_by findings worker (es ∷ journals) line = any_closes findings worker 1 es line || closed_by findings (worker + 1) journals line
 
--- a line is open where no intent of it, in no journal, closes it
+-- a line is open if no intent of it, in any journal, closes it
 abbrev pub is_open : List Finding → List (List Attempt) → ℕ → Bool
 is_open findings journals line = not (closed_by findings 1 journals line)
 

@@ -28,6 +28,10 @@ pub struct AttemptsByLine {
 
 impl AttemptsByLine {
     /// Returns so many journals without an attempt, of a run that knows no line yet.
+    ///
+    /// # Errors
+    ///
+    /// `AllocError` if there was no memory.
     pub fn new(alloc: Global, journals: usize) -> Result<AttemptsByLine, AllocError>
         ensures journals { IfOk result (λ made. map (λ journal. journal.items) made.journals.items ≡ replicate journals []) }
         ensures lines { IfOk result (λ made. made.lines.items ≡ []) }
@@ -65,8 +69,12 @@ impl AttemptsByLine {
         &self.journals
     }
 
-    /// Notes one entry more of this worker, and returns whether it may follow those that were
-    /// noted. An entry that may not changes no journal, and neither does a want of memory.
+    /// Notes one entry more of this worker, and returns true if it may follow those that were
+    /// noted. An entry that may not changes no journal.
+    ///
+    /// # Errors
+    ///
+    /// `AllocError` if there was no memory. Then no journal changed.
     pub fn note(&mut self, worker: u64, entry: Entry) -> Result<bool, AllocError>
         ensures noted { IfOk result (λ noted. NotesIn (length self.old.lines.items) noted (map (λ journal. journal.items) self.old.journals.items) worker entry (map (λ journal. journal.items) self.new.journals.items)) }
         ensures refused { OnErr result (map (λ journal. journal.items) self.new.journals.items ≡ map (λ journal. journal.items) self.old.journals.items) }
@@ -106,7 +114,11 @@ impl AttemptsByLine {
         1 <= worker && worker <= self.journals.len() as u64
     }
 
-    /// Has the run know so many lines, if it knew fewer.
+    /// Makes the run know so many lines, if it knew fewer.
+    ///
+    /// # Errors
+    ///
+    /// `AllocError` if there was no memory.
     pub fn grow(&mut self, alloc: Global, count: u64) -> Result<(), AllocError>
         ensures lines { OnOk result (length self.new.lines.items ≡ max (length self.old.lines.items) count) }
         ensures journals { self.new.journals ≡ self.old.journals }

@@ -10,7 +10,7 @@ use crate::finding::{Finding, is_undone};
 use crate::journal::Attempt;
 use crate::open::reopens;
 
-/// Which attempt it is, of all that the journals have.
+/// The identity of an attempt, among all that the journals have.
 #[derive(Clone, Copy, Debug, PartialEq, Eq)]
 pub struct AttemptId {
     /// The number of the worker whose journal has it, from 1.

@@ -26,12 +26,16 @@ pub enum Outcome {
 pub enum Entry {
     /// The line of this number is about to be performed. The time is in seconds since 1970.
     Intent { serial: u64, line: u64, time: u64 },
-    /// What became of the intent of this serial number.
+    /// The outcome of the intent of this serial number.
     Answer { serial: u64, answer: Outcome },
 }
 
 impl Entry {
-    /// The text of the entry, without an end.
+    /// Returns the text of the entry, without an end.
+    ///
+    /// # Errors
+    ///
+    /// `AllocError` if there was no memory.
     pub fn print(&self, alloc: Global) -> Result<String, AllocError>
         ensures text { IfOk result (λ text. string_bytes text ≡ text_of self.now) }
         ensures fits { Fits self.now }
@@ -44,12 +48,12 @@ impl Entry {
         }
     }
 
-    /// The entry that these bytes say, if they say one.
+    /// Returns the entry that these bytes say, or `None`.
     pub fn read(bytes: &[u8]) -> Option<Entry>
         ensures exact { result ≡ entry_in bytes.now }
-        // What is read was printed so.
+        // The entry that is read has this text.
         ensures found { IfSome result (λ entry. text_of entry ≡ bytes.now) }
-        // What was printed is read.
+        // The text of an entry is read.
         ensures none { IfNone result ((entry : EntryView) → Fits entry → text_of entry ≡ bytes.now → ⊥) }
     {
         entry_of_bytes(bytes)
@@ -74,7 +78,7 @@ pub(crate) fn print_answer(
     }
 }
 
-/// What the bytes say. What is no text is no entry.
+/// Returns the entry that the bytes say. Bytes that are not UTF-8 say none.
 #[tactic(auto, using(crate::proofs::EntryTexts::no_text))]
 fn entry_of_bytes(bytes: &[u8]) -> Option<Entry>
     ensures { result ≡ entry_in bytes.now }
@@ -126,7 +130,7 @@ fn answer_of_word(word: &str, rest: &str) -> Option<(u64, Outcome)>
     }
 }
 
-/// The number as the code of a command. None above 255 is one.
+/// Returns the number as the code of a command. A number above 255 is not a code.
 pub fn code_of(number: u64) -> Option<u8>
     ensures { result ≡ code_in number }
 {

@@ -1,15 +1,15 @@
-//! Why what a file says is refused.
+//! The faults of a file that is read.
 ghost use Rattle.std.specs.Prelude.{◌≡◌};
 ghost use Rattle.amo_run_log.specs.declared.fault.Fault.TheVariants.{Memory};
 
 use std::alloc::{AllocError, AllocFailed};
 
-/// Why what a file says is refused.
+/// The reason that a file was refused.
 #[derive(Clone, Copy, Debug, PartialEq, Eq)]
 pub enum Fault {
-    /// There was no memory left: nothing is said of the file.
+    /// There was no memory. Nothing is known of the file.
     Memory,
-    /// The text of this number, from 1, says nothing that may stand there.
+    /// The text of this number, from 1, is invalid, or may not follow those before it.
     Refused(usize),
 }
 

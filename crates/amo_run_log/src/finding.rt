@@ -1,4 +1,4 @@
-//! What a person found out about an intent, as a text.
+//! Findings of persons on intents, as texts.
 ghost use Rattle.std.specs.Prelude.{◌≡◌, ◌<◌, ◌-◌, ℕ, true, take, slice_get, IfOk, IfErr, IfSome, IfNone, Some, map, string_bytes};
 ghost use Rattle.std.specs.List.{list_any};
 ghost use Rattle.amo_run_log.specs.Faults.{SaysNothing};
@@ -12,29 +12,33 @@ use crate::reading::{FromText, read_each};
 use std::alloc::{AllocError, Global};
 use std::str;
 
-/// What was found out.
+/// The verdict of a person on an intent.
 #[derive(Clone, Copy, Debug, PartialEq, Eq)]
 pub enum Resolution {
-    /// What was intended was done.
+    /// The line was done.
     Done,
     /// It was not done: its line may be performed.
     NotDone,
 }
 
-/// What a person found out about an intent.
+/// The finding of a person on an intent.
 #[derive(Clone, Copy, Debug, PartialEq, Eq)]
 pub struct Finding {
     pub verdict: Resolution,
-    /// Whose intent it is, from 1.
+    /// The worker whose intent it is, from 1.
     pub worker: u64,
     /// Its place in that worker's journal, from 1.
     pub serial: u64,
-    /// In seconds since 1970.
+    /// The time of the finding, in seconds since 1970.
     pub time: u64,
 }
 
 impl Finding {
-    /// The text of the finding, without an end.
+    /// Returns the text of the finding, without an end.
+    ///
+    /// # Errors
+    ///
+    /// `AllocError` if there was no memory.
     pub fn print(&self, alloc: Global) -> Result<String, AllocError>
         ensures text { IfOk result (λ text. string_bytes text ≡ text_of_finding self.now) }
         ensures fits { FitsFinding self.now }
@@ -51,12 +55,12 @@ impl Finding {
         }
     }
 
-    /// The finding that these bytes say, if they say one.
+    /// Returns the finding that these bytes say, or `None`.
     pub fn read(bytes: &[u8]) -> Option<Finding>
         ensures exact { result ≡ finding_in bytes.now }
-        // What is read was printed so.
+        // The finding that is read has this text.
         ensures found { IfSome result (λ finding. text_of_finding finding ≡ bytes.now) }
-        // What was printed is read.
+        // The text of a finding is read.
         ensures none { IfNone result ((finding : FindingView) → FitsFinding finding → text_of_finding finding ≡ bytes.now → ⊥) }
     {
         finding_of_bytes(bytes)
@@ -71,7 +75,7 @@ impl FromText for Finding {
     }
 }
 
-/// What the bytes say. What is no text is no finding.
+/// Returns the finding that the bytes say. Bytes that are not UTF-8 say none.
 #[tactic(auto, using(crate::proofs::FindingTexts::no_text))]
 fn finding_of_bytes(bytes: &[u8]) -> Option<Finding>
     ensures { result ≡ finding_in bytes.now }
@@ -112,7 +116,12 @@ fn verdict_of(word: &str) -> Option<Resolution>
     }
 }
 
-/// Reads each text as a finding. The first that is none is refused, by its number.
+/// Reads each text as a finding.
+///
+/// # Errors
+///
+/// `Refused` with the number of the first text that isn't a finding. `Memory` if there was no
+/// memory.
 pub fn read_findings(alloc: Global, texts: &[Vec<u8>]) -> Result<Vec<Finding>, Fault>
     ensures exact { IfOk result (λ findings. findings_in (map (λ text. text.items) texts.now) ≡ Some findings.items) }
     ensures refused { IfErr result (SaysNothing finding_in (map (λ text. text.items) texts.now)) }
@@ -137,12 +146,12 @@ pub fn is_not_done(verdict: Resolution) -> bool
     }
 }
 
-/// The number, from 1, of the first finding that may not stand where it does: it is of no intent,
-/// or of one of which a finding before it is. The journals are those of the workers 1, 2 and so on.
+/// Returns the number, from 1, of the first finding that is out of place. It is of no intent, or of
+/// one that has a finding before it. The journals are those of the workers 1, 2 and so on.
 pub fn first_misplaced(journals: &[Vec<Attempt>], findings: &[Finding]) -> Option<usize>
     ensures none { IfNone result (AreInPlace (map (λ journal. journal.items) journals.now) findings.now) }
     ensures found { IfSome result (IsOutOfPlace (map (λ journal. journal.items) journals.now) findings.now) }
-    // Each finding before it may stand where it does.
+    // Each finding before it is in place.
     ensures first { IfSome result (λ number. (k : ℕ) (f : FindingView) → k < number - 1 → slice_get findings.now k ≡ Some f → may_join (map (λ journal. journal.items) journals.now) (take k findings.now) f ≡ true) }
 {
     for (i, finding) in findings.iter().enumerate() {
@@ -153,7 +162,7 @@ pub fn first_misplaced(journals: &[Vec<Attempt>], findings: &[Finding]) -> Optio
     None
 }
 
-/// Returns true if a finding may stand behind those before it.
+/// Returns true if a finding may follow those before it.
 fn may_join(journals: &[Vec<Attempt>], before: &[Finding], finding: &Finding) -> bool
     ensures { result ≡ may_join (map (λ journal. journal.items) journals.now) before.now finding.now }
 {

@@ -1,4 +1,4 @@
-//! The journal that entries are: its intents, each with its answer.
+//! The journal that entries are: its intents, each with its outcome.
 ghost use Rattle.std.specs.Prelude.{◌≡◌, ◌++◌, true, false, Some, None, IfOk, IfErr, OnOk, OnErr, map};
 ghost use Rattle.amo_run_log.specs.Entries.{append_in, entries_in, entries_of_append, entries_of_appends};
 ghost use Rattle.amo_run_log.specs.Faults.{SaysNothing};
@@ -11,20 +11,24 @@ use crate::fault::Fault;
 use crate::reading::read_each;
 use std::alloc::{AllocError, Global};
 
-/// An intent, with its answer where it has one. Its serial number is its place in the journal, from
+/// An intent, with its outcome if it has one. Its serial number is its place in the journal, from
 /// 1.
 #[derive(Clone, Copy, Debug, PartialEq, Eq)]
 pub struct Attempt {
     /// The line of the jobs' file, from 1.
     pub line: u64,
-    /// In seconds since 1970.
+    /// The time of the intent, in seconds since 1970.
     pub time: u64,
-    /// What became of it, where that is known.
+    /// The outcome, if it is known.
     pub answer: Option<Outcome>,
 }
 
-/// Reads each text of a journal as an append, and returns the entries of all of them. The first
-/// text that says no append is refused, by its number.
+/// Reads each text of a journal as an append, and returns the entries of all of them.
+///
+/// # Errors
+///
+/// `Refused` with the number of the first text that isn't an append. `Memory` if there was no
+/// memory.
 pub fn read_entries(alloc: Global, texts: &[Vec<u8>]) -> Result<Vec<Entry>, Fault>
     ensures exact { IfOk result (λ entries. entries_in (map (λ text. text.items) texts.now) ≡ Some entries.items) }
     ensures refused { IfErr result (SaysNothing append_in (map (λ text. text.items) texts.now)) }
@@ -59,8 +63,12 @@ fn push_append(entries: &mut Vec<Entry>, append: Append) -> Result<(), AllocErro
 }
 
 /// Reads the appends of a journal, of a jobs' file that has so many lines, and returns its
-/// attempts. The first append that says no entries, or whose entries may not follow those before
-/// it, is refused, by its number.
+/// attempts.
+///
+/// # Errors
+///
+/// `Refused` with the number of the first append that is invalid, or whose entries may not follow
+/// those before it. `Memory` if there was no memory.
 pub fn read_attempts(alloc: Global, count: u64, texts: &[Vec<u8>]) -> Result<Vec<Attempt>, Fault>
     ensures exact { IfOk result (λ attempts. attempts_in count (map (λ text. text.items) texts.now) ≡ Some attempts.items) }
     ensures refused { IfErr result (IsRefusedAppend count (map (λ text. text.items) texts.now)) }
@@ -77,9 +85,13 @@ pub fn read_attempts(alloc: Global, count: u64, texts: &[Vec<u8>]) -> Result<Vec
     Ok(noted)
 }
 
-/// The journal that the entries are, of a jobs' file that has so many lines. The first entry that
-/// may not follow those before it is refused, by its number: a serial number out of turn, a line
-/// that there is not, an answer to what is not pending.
+/// Returns the attempts of these entries, of a jobs' file that has so many lines.
+///
+/// # Errors
+///
+/// `Refused` with the number of the first entry that may not follow those before it. Its serial
+/// number is out of turn, or its line doesn't exist, or it answers an intent that isn't pending.
+/// `Memory` if there was no memory.
 pub fn journal_of(alloc: Global, count: u64, entries: &[Entry]) -> Result<Vec<Attempt>, Fault>
     ensures exact { IfOk result (λ attempts. journal_of count entries.now ≡ Some attempts.items) }
     ensures refused { IfErr result (IsRefused count entries.now) }
@@ -93,8 +105,12 @@ pub fn journal_of(alloc: Global, count: u64, entries: &[Entry]) -> Result<Vec<At
     Ok(attempts)
 }
 
-/// Notes one entry more, and says whether it may follow those that were noted. An entry that may
-/// not changes nothing, and neither does a want of memory.
+/// Notes one entry more, and returns true if it may follow those that were noted. An entry that may
+/// not changes nothing.
+///
+/// # Errors
+///
+/// `AllocError` if there was no memory. Then nothing changed.
 pub fn note(count: u64, attempts: &mut Vec<Attempt>, entry: Entry) -> Result<bool, AllocError>
     ensures noted { IfOk result (λ noted. NotesOrNot count noted attempts.old.items entry attempts.new.items) }
     ensures refused { OnErr result (attempts.new.items ≡ attempts.old.items) }
@@ -105,9 +121,9 @@ pub fn note(count: u64, attempts: &mut Vec<Attempt>, entry: Entry) -> Result<boo
     }
 }
 
-/// Notes the entries of an append, and says whether they may follow those that were noted. If they
-/// may not, or memory is wanting, the first of two may have been noted: the attempts are no
-/// journal's then.
+/// Notes the entries of an append, and returns true if they may follow those that were noted. If
+/// they may not, or if there was no memory, the first of two may have been noted: the attempts are
+/// those of no journal then.
 pub(crate) fn note_append(
     count: u64,
     attempts: &mut Vec<Attempt>,
@@ -156,7 +172,7 @@ fn is_line(count: u64, line: u64) -> bool
     1 <= line && line <= count
 }
 
-/// Notes an answer.
+/// Notes an outcome. Returns false if it may not be noted.
 fn settle(attempts: &mut [Attempt], serial: u64, answer: Outcome) -> bool
     ensures noted { result ≡ true → answered_to attempts.old serial answer ≡ Some attempts.new }
     ensures refused { result ≡ false → answered_to attempts.old serial answer ≡ None }
@@ -173,7 +189,11 @@ fn settle(attempts: &mut [Attempt], serial: u64, answer: Outcome) -> bool
     true
 }
 
-/// The serial numbers and lines of the intents without an answer, in order.
+/// Returns the serial numbers and lines of the intents without an outcome, in order.
+///
+/// # Errors
+///
+/// `AllocError` if there was no memory.
 pub fn pending(alloc: Global, attempts: &[Attempt]) -> Result<Vec<(u64, u64)>, AllocError>
     ensures { IfOk result (λ found. found.items ≡ pending_from 1 attempts.now) }
 {

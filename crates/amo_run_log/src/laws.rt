@@ -1,5 +1,5 @@
-//! What follows for texts, journals and open lines, each as the contract of a function that does
-//! nothing.
+//! The theorems on texts, journals and open lines. Nothing here runs: each function's contract is a
+//! theorem. Start at `what_is_open`.
 ghost use Rattle.std.specs.Prelude.{◌≡◌, ◌≤◌, ◌<◌, ◌+◌, ◌^◌, ◌++◌, [], ◌∷◌, ℕ, true, false, List, Some, codes, length, map};
 ghost use Rattle.std.specs.Fmt.{decimal};
 ghost use Rattle.std.specs.List.{AllByRecursion};
@@ -18,8 +18,8 @@ ghost use Rattle.amo_run_log.specs.Journals.{noted, journal_from, journal_of};
 ghost use Rattle.amo_run_log.specs.OldAnswers.{with_time};
 ghost use Rattle.amo_run_log.specs.Open.{is_open, IsOpen, HasIntent, OpensNone, IsAnswer, IsOfLine, NoneOpens, serial_of};
 
-/// Each list of appends is read back as itself, and what is read was printed so. Its entries are
-/// those of all appends, in order.
+/// States that each list of appends is read back as itself, and that a text that is read was
+/// printed so. Its entries are those of all appends, in order.
 pub fn entries_are_read_back()
     ensures back { (appends : List AppendView) → AllByRecursion FitsAppend appends → entries_in (map text_of_append appends) ≡ Some (entries_of_appends appends) }
     ensures printed { (texts : List (List ℕ)) (entries : List EntryView) → entries_in texts ≡ Some entries
@@ -29,8 +29,8 @@ pub fn entries_are_read_back()
         → map text_of_append appends ≡ map text_of_append others → appends ≡ others }
 {}
 
-/// An answer that version 0.1.0 wrote without a time is read with the time 0. An entry of today
-/// stays as it is.
+/// States that an outcome that version 0.1.0 wrote without a time is read with the time 0. An entry
+/// of today stays as it is.
 pub fn old_answers_are_read()
     ensures doubt { (serial : ℕ) → serial < 2 ^ 64
         → entry_in (with_time (codes "doubt " ++ decimal serial)) ≡ Some (Answered serial (Doubt 0)) }
@@ -39,20 +39,21 @@ pub fn old_answers_are_read()
     ensures entry { (entry : EntryView) → Fits entry → with_time (text_of entry) ≡ text_of entry }
 {}
 
-/// Each list of findings is read back as itself, and what is read was printed so.
+/// States that each list of findings is read back as itself, and that a text that is read was
+/// printed so.
 pub fn findings_are_read_back()
     ensures back { (findings : List FindingView) → AllByRecursion FitsFinding findings → findings_in (map text_of_finding findings) ≡ Some findings }
     ensures printed { (texts : List (List ℕ)) (findings : List FindingView) → findings_in texts ≡ Some findings → map text_of_finding findings ≡ texts }
 {}
 
-/// Entries are a journal just where each may follow those before it.
+/// States that entries are a journal exactly if each may follow those before it.
 pub fn what_is_a_journal()
     ensures is { (count : ℕ) (entries : List EntryView) (attempts : List AttemptView) → journal_of count entries ≡ Some attempts → IsJournal count entries }
     ensures only { (count : ℕ) (entries : List EntryView) → IsJournal count entries → (attempts : List AttemptView) × (journal_of count entries ≡ Some attempts) }
 {}
 
-/// What it is to be open: each intent of the line, in each journal, is answered by one that opens
-/// it, or was found not done.
+/// States what an open line is: each intent of it, in each journal, has an outcome that opens it,
+/// or was found not done.
 pub fn what_is_open()
     ensures is { (findings : List FindingView) (journals : List (List AttemptView)) (line : ℕ)
         → is_open findings journals line ≡ true → IsOpen findings journals line }
@@ -60,20 +61,21 @@ pub fn what_is_open()
         → IsOpen findings journals line → is_open findings journals line ≡ true }
 {}
 
-/// Closing wins: a journal more opens no line.
+/// States that closing wins: one more journal opens no line.
 pub fn a_journal_opens_none()
     ensures { (findings : List FindingView) (journals more : List (List AttemptView)) (line : ℕ)
         → is_open findings (journals ++ more) line ≡ true → is_open findings journals line ≡ true }
 {}
 
-/// Closing wins: nor does an intent more, or an answer other than that it was not begun.
+/// States that closing wins in one journal too. An intent more opens no line, nor does an outcome
+/// other than that it was not begun.
 pub fn an_intent_opens_none()
     ensures { (count : ℕ) (findings : List FindingView) (before after : List (List AttemptView)) (attempts next : List AttemptView) (line : ℕ) (entry : EntryView)
         → OpensNone entry → noted count attempts entry ≡ Some next
         → is_open findings (before ++ next ∷ after) line ≡ true → is_open findings (before ++ attempts ∷ after) line ≡ true }
 {}
 
-/// Whatever is noted opens at most the line of its own intent.
+/// States that an entry opens at most the line of its own intent.
 pub fn an_answer_opens_its_own()
     ensures { (count : ℕ) (findings : List FindingView) (before after : List (List AttemptView)) (attempts next : List AttemptView) (line : ℕ) (entry : EntryView)
         → noted count attempts entry ≡ Some next
@@ -81,15 +83,16 @@ pub fn an_answer_opens_its_own()
         → IsOfLine attempts (serial_of entry) line }
 {}
 
-/// Who misses answers at the end of a journal sees no line as open that isn't.
+/// States that a reader that misses outcomes at the end of a journal takes no closed line for open.
 pub fn missed_answers_open_none()
     ensures { (count : ℕ) (findings : List FindingView) (before after : List (List AttemptView)) (attempts next : List AttemptView) (line : ℕ) (answers : List EntryView)
         → AllByRecursion IsAnswer answers → journal_from count attempts answers ≡ Some next
         → is_open findings (before ++ attempts ∷ after) line ≡ true → is_open findings (before ++ next ∷ after) line ≡ true }
 {}
 
-/// After its intent a line is closed, whatever else is noted, there and in other journals, until
-/// that very intent is answered by one that opens it, or a person finds it not done.
+/// States that after its intent a line is closed, whatever else is noted, there and in other
+/// journals. It stays so until that very intent gets an outcome that opens it, or a person finds it
+/// not done.
 pub fn an_intent_closes()
     ensures { (count : ℕ) (findings : List FindingView) (before after : List (List AttemptView)) (attempts mid next : List AttemptView) (serial line time : ℕ) (entries : List EntryView)
         → noted count attempts (Intent serial line time) ≡ Some mid → NoneOpens serial entries → journal_from count mid entries ≡ Some next
@@ -97,21 +100,21 @@ pub fn an_intent_closes()
         → is_open findings (before ++ next ∷ after) line ≡ false }
 {}
 
-/// Who misses findings sees no line as open that isn't.
+/// States that a reader that misses findings takes no closed line for open.
 pub fn missed_findings_open_none()
     ensures { (findings more : List FindingView) (journals : List (List AttemptView)) (line : ℕ)
         → is_open findings journals line ≡ true → is_open (findings ++ more) journals line ≡ true }
 {}
 
-/// An intent that was put closes its line. It goes on to do so while entries follow that don't open
-/// it.
+/// States that an intent that was put closes its line. It goes on to do so while the entries after
+/// it don't open it.
 pub fn an_intent_stays()
     ensures first { (entries : List EntryView) (serial line time : ℕ) → HasIntent serial line (entries ++ Intent serial line time ∷ []) }
     ensures later { (entries more : List EntryView) (serial line : ℕ)
         → HasIntent serial line entries → NoneOpens serial more → HasIntent serial line (entries ++ more) }
 {}
 
-/// A line is clear for an attempt just if no other attempt at it stands.
+/// States that a line is clear for an attempt exactly if no other attempt at it stands.
 pub fn clearance_is_of_each_other_attempt()
     ensures is { (findings : List FindingView) (journals : List (List AttemptView)) (own other : AttemptIdView) (line : ℕ)
         → IsClear findings journals own line → IsStanding findings journals own line other → ⊥ }
@@ -119,7 +122,8 @@ pub fn clearance_is_of_each_other_attempt()
         → ((other : AttemptIdView) → IsStanding findings journals own line other → ⊥) → IsClear findings journals own line }
 {}
 
-/// A line is clear for an intent that was just noted just if it is open without that intent.
+/// States that a line is clear for an intent that was just noted exactly if it is open without that
+/// intent.
 pub fn a_clear_line_is_open_but_for_itself()
     ensures is { (count : ℕ) (findings : List FindingView) (before after : List (List AttemptView)) (attempts next : List AttemptView) (serial line time : ℕ)
         → noted count attempts (Intent serial line time) ≡ Some next
@@ -131,8 +135,8 @@ pub fn a_clear_line_is_open_but_for_itself()
         → IsClear findings (before ++ next ∷ after) (record { worker = length before + 1; serial = serial }) line }
 {}
 
-/// A line that is clear stays so until another intent at it is noted. So who misses findings or
-/// answers sees no line as clear that isn't.
+/// States that a line that is clear stays so until another intent at it is noted. So a reader that
+/// misses findings or outcomes takes no line for clear that isn't.
 pub fn what_is_opened_stays_clear()
     ensures findings { (findings more : List FindingView) (journals : List (List AttemptView)) (own : AttemptIdView) (line : ℕ)
         → IsClear findings journals own line → IsClear (findings ++ more) journals own line }

@@ -1,5 +1,15 @@
-//! What the lines in the journals of a run mean: which lines of the jobs' file are open, with what
-//! a round is begun, and who acts as which of its workers. The theorems stand in the module `laws`.
+//! The meaning of the records in the journals of a run: intents, outcomes, and the lines that are
+//! open.
+//!
+//! Start at [`open_lines`] and [`AttemptsByLine`]. [`append_entries`] adds records to a journal.
+//! The theorems stand in the module [`laws`].
+//!
+//! | here | in the glossary |
+//! |---|---|
+//! | answer of an intent | outcome |
+//! | finding | resolution |
+//! | entry | record of an intent or an outcome |
+//! | to put | to append |
 #![tactic(auto)]
 
 mod append;

@@ -6,8 +6,8 @@ ghost use Rattle.amo_run_log.specs.Numbers.{has_byte, two_in, three_in};
 use amo_decimal::number;
 use std::str;
 
-/// The three numbers that a text says, one blank between each two and nothing else. Each is read as
-/// by `number`.
+/// Returns the three numbers that a text says, one blank between each two and nothing else. Each is
+/// read as by `number`.
 pub(crate) fn three(text: &str) -> Option<(u64, u64, u64)>
     ensures { result ≡ three_in text.now }
 {
@@ -17,8 +17,8 @@ pub(crate) fn three(text: &str) -> Option<(u64, u64, u64)>
     Some((a, b, c))
 }
 
-/// The two numbers that a text says, one blank between them and nothing else. Each is read as by
-/// `number`.
+/// Returns the two numbers that a text says, one blank between them and nothing else. Each is read
+/// as by `number`.
 pub(crate) fn two(text: &str) -> Option<(u64, u64)>
     ensures { result ≡ two_in text.now }
 {
@@ -26,7 +26,7 @@ pub(crate) fn two(text: &str) -> Option<(u64, u64)>
     Some((number(a)?, number(b)?))
 }
 
-/// The two numbers that the bytes say.
+/// Returns the two numbers that the bytes say.
 #[tactic(auto, using(crate::proofs::Words::two_no_text))]
 pub fn two_of_bytes(bytes: &[u8]) -> Option<(u64, u64)>
     ensures { result ≡ two_in bytes.now }
@@ -37,7 +37,7 @@ pub fn two_of_bytes(bytes: &[u8]) -> Option<(u64, u64)>
     }
 }
 
-/// The three numbers that the bytes say.
+/// Returns the three numbers that the bytes say.
 #[tactic(auto, using(crate::proofs::Words::three_no_text))]
 pub fn three_of_bytes(bytes: &[u8]) -> Option<(u64, u64, u64)>
     ensures { result ≡ three_in bytes.now }

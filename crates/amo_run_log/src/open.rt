@@ -8,7 +8,12 @@ use crate::finding::{Finding, is_undone};
 use crate::journal::Attempt;
 use std::alloc::{AllocError, Global};
 
-/// The open lines of 1..count, in order. The journals are those of the workers 1, 2 and so on.
+/// Returns the open lines of 1..count, in rising order. The journals are those of the workers 1, 2
+/// and so on.
+///
+/// # Errors
+///
+/// `AllocError` if there was no memory.
 pub fn open_lines(
     alloc: Global,
     findings: &[Finding],
@@ -22,7 +27,7 @@ pub fn open_lines(
     unmarked(alloc, &closed)
 }
 
-/// The lines that are not marked, in order.
+/// Returns the lines that are not marked, in order.
 fn unmarked(alloc: Global, closed: &[bool]) -> Result<Vec<u64>, AllocError>
     ensures { (is_open : ℕ → Bool) → ((k : ℕ) → k < length closed.now → slice_index_or closed.now k false ≡ not (is_open (k + 1))) → IfOk result (λ lines. lines.items ≡ filter is_open (numbers (length closed.now))) }
 {
@@ -66,8 +71,8 @@ fn mark_one(closed: &mut [bool], findings: &[Finding], worker: u64, serial: u64,
     closed[(attempt.line - 1) as usize] = true;
 }
 
-/// Returns whether what is known of an intent opens its line again: only the answer that it was not
-/// begun. An intent with no answer closes its line.
+/// Returns true if an intent with this outcome leaves its line open: only if it was not begun. An
+/// intent without an outcome closes its line.
 pub fn reopens(answer: Option<Outcome>) -> bool
     ensures { result ≡ reopens answer }
 {
@@ -77,7 +82,7 @@ pub fn reopens(answer: Option<Outcome>) -> bool
     }
 }
 
-/// Returns true if an answer opens the line again: only that it was not begun.
+/// Returns true if this outcome opens the line again: only that it was not begun.
 pub fn opens(answer: Outcome) -> bool
     ensures { result ≡ opens answer }
 {

@@ -1,4 +1,4 @@
-//! To put entries, or what a person found out, in the journal of a file.
+//! Appending of entries and findings to the journal of a file.
 ghost use Rattle.std.specs.Prelude.{◌≡◌, ◌⊎◌, ◌+◌, ◌<◌, ◌≤◌, ◌^◌, ◌++◌, [], ◌∷◌, ℕ, false, List, Some, length, OnOk, OnErr, IsErrOf};
 ghost use Rattle.amo_journal.specs.Appends.{longest, records_in};
 ghost use Rattle.amo_journal.specs.Device.{LeavesOnly};
@@ -17,9 +17,13 @@ use amo_journal::{AppendError, Device, DeviceError, Journal};
 use std::alloc::Global;
 
 /// Adds one or two entries to a journal that was recovered, in one append. At `Ok` they are
-/// acknowledged: from then on each crash leaves a file that has them. At an error of the device,
-/// memory too, the journal must be recovered before anything else is put: until then all of the
-/// entries are there, or none of them.
+/// acknowledged: from then on each crash leaves a file that has them.
+///
+/// # Errors
+///
+/// `TooLong` if the journal or the append is too long; then nothing changed. `Device` if the device
+/// failed, or if there was no memory. Then the journal must be recovered before anything else is
+/// put. Until then all of the entries are there, or none of them.
 pub fn append_entries<D: Device>(
     journal: &mut Journal<D>,
     alloc: Global,
@@ -57,7 +61,7 @@ pub fn append_entries<D: Device>(
     ensures log { LeavesOnly D.moment D.left_since journal.old.device journal.new.device
         (HasOneMoreOrNot journal.old.first.digits (records_in (D.seen journal.old.device)) (text_of_append append)) }
 
-    // It doesn't give up by itself.
+    // It fails only if the disk failed.
     ensures failed { IsErrOf result (AppendError.Device DeviceError.Failed) → D.faults journal.old.device < D.faults journal.new.device }
     ensures too_long { IsErrOf result AppendError.TooLong → ((2 ^ 60 ≤ journal.old.gate) ⊎ (longest < length (text_of_append append) + 11)) × (journal.new ≡ journal.old) }
 {
@@ -67,10 +71,15 @@ pub fn append_entries<D: Device>(
     journal.append(alloc, text.as_bytes())
 }
 
-/// Adds what a person found out to a journal of findings that was recovered. At `Ok` it is
-/// acknowledged: from then on each crash leaves a file that says it. At an error of the device,
-/// memory too, the journal must be recovered before anything else is put: until then the finding is
-/// there or not. Whether it may stand there (`first_misplaced`) is not asked.
+/// Adds a finding to a journal of findings that was recovered. At `Ok` it is acknowledged: from
+/// then on each crash leaves a file that has it. It doesn't check that the finding is in place; see
+/// `first_misplaced`.
+///
+/// # Errors
+///
+/// `TooLong` if the journal or the append is too long; then nothing changed. `Device` if the device
+/// failed, or if there was no memory. Then the journal must be recovered before anything else is
+/// put. Until then the finding is there or not.
 pub fn append_finding<D: Device>(
     journal: &mut Journal<D>,
     alloc: Global,
@@ -96,7 +105,7 @@ pub fn append_finding<D: Device>(
     ensures log { LeavesOnly D.moment D.left_since journal.old.device journal.new.device
         (HasOneMoreOrNot journal.old.first.digits (records_in (D.seen journal.old.device)) (text_of_finding finding)) }
 
-    // It doesn't give up by itself.
+    // It fails only if the disk failed.
     ensures failed { IsErrOf result (AppendError.Device DeviceError.Failed) → D.faults journal.old.device < D.faults journal.new.device }
     ensures too_long { IsErrOf result AppendError.TooLong → ((2 ^ 60 ≤ journal.old.gate) ⊎ (longest < length (text_of_finding finding) + 11)) × (journal.new ≡ journal.old) }
 {

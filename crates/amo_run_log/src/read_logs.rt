@@ -19,6 +19,10 @@ pub struct ReadLogs {
 
 impl ReadLogs {
     /// Returns answers and so many journals of which nothing was read, in a run of so many lines.
+    ///
+    /// # Errors
+    ///
+    /// `AllocError` if there was no memory.
     pub fn new(alloc: Global, journals: usize, count: u64) -> Result<ReadLogs, AllocError>
         ensures findings { IfOk result (λ made. made.findings.items ≡ []) }
         ensures journals { IfOk result (λ made. map (λ journal. journal.items) made.attempts.journals.items ≡ replicate journals []) }
@@ -32,8 +36,12 @@ impl ReadLogs {
         })
     }
 
-    /// Reads these texts of answers too, and returns whether each of them says a finding. If one
+    /// Reads these texts of answers too, and returns true if each of them says a finding. If one
     /// doesn't, those before it may have been added.
+    ///
+    /// # Errors
+    ///
+    /// `AllocError` if there was no memory. Some of the texts may have been read.
     pub fn read_answers(&mut self, texts: &[Vec<u8>]) -> Result<bool, AllocError>
         ensures read { IfOk result (λ read. ReadsFindings read self.old.findings.items (map (λ text. text.items) texts.now) self.new.findings.items) }
         ensures attempts { self.new.attempts ≡ self.old.attempts }
@@ -47,9 +55,13 @@ impl ReadLogs {
         Ok(true)
     }
 
-    /// Reads these texts of appends too, in the journal of this worker, and returns whether their
+    /// Reads these texts of appends too, in the journal of this worker, and returns true if their
     /// entries may follow those that were read before. If they may not, some of them may have been
     /// noted.
+    ///
+    /// # Errors
+    ///
+    /// `AllocError` if there was no memory. Some of the texts may have been read.
     pub fn read_journal(&mut self, worker: u64, texts: &[Vec<u8>]) -> Result<bool, AllocError>
         ensures read { IfOk result (λ read. ReadsJournal (length self.old.attempts.lines.items) read (map (λ journal. journal.items) self.old.attempts.journals.items) worker (map (λ text. text.items) texts.now) (map (λ journal. journal.items) self.new.attempts.journals.items)) }
         ensures lines { length self.new.attempts.lines.items ≡ length self.old.attempts.lines.items }

@@ -1,4 +1,4 @@
-//! To read each of many texts.
+//! Reading each of many texts.
 ghost use Rattle.std.specs.Prelude.{◌≡◌, ℕ, List, Option, Some, IfOk, IfErr, map};
 ghost use Rattle.amo_run_log.specs.Faults.{SaysNothing};
 ghost use Rattle.amo_run_log.specs.Numbers.{read_all};
@@ -6,12 +6,12 @@ ghost use Rattle.amo_run_log.specs.Numbers.{read_all};
 use crate::fault::Fault;
 use std::alloc::Global;
 
-/// What a text may say.
+/// A value that a text may say.
 pub(crate) trait FromText: Copy {
-    /// What a text says, if it says something.
+    /// The value that a text says, if it says one.
     ghost said: { List ℕ → Option Self };
 
-    /// What these bytes say, if they say something.
+    /// Returns the value that these bytes say, if they say one.
     fn from_text(text: &[u8]) -> Option<Self>
         ensures exact { result ≡ said text.now };
 }

@@ -1,4 +1,5 @@
--- What a process does, or what comes about behind its back, keeps the rounds good and each process where it may be.
+-- A deed of a process, or an event unknown to it, keeps the rounds good. Each process stays at a
+-- place that it may have.
 use Rattle.std.proofs.Common.{◌≡◌, ℕ, false, ◌+◌, ◌≤◌, List, [], ◌∷◌, ◌++◌, Option, Some, None, refl, sym, subst, arith}
 use Rattle.std.specs.List.{AllByRecursion}
 use Rattle.std.proofs.lemmas.Bool.{true≢false}

@@ -1,4 +1,5 @@
--- Of a line of which a command may begin, or runs, no other intent is read, unless it was said that it wasn't begun or done.
+-- While a command of a line may begin, or runs, no other intent of the line is read, unless it is
+-- noted as not begun or not done.
 use Rattle.std.proofs.Common.{◌≡◌, ⊎_elim, ℕ, Bool, true, false, List, [], ◌∷◌, ◌++◌, Some, refl, sym, ap, ◌∙◌, subst}
 use Rattle.std.specs.Prelude.{◌==◌}
 use Rattle.std.proofs.lemmas.Bool.{true≢false, eqb-true, or_cases}

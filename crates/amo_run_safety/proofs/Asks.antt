@@ -1,4 +1,4 @@
--- Who asks for intents stands where what it has done leads, each deed of which was due.
+-- A process that asks for intents is at the stage that its deeds lead to, each of which was due.
 use Rattle.std.proofs.Common.{◌≡◌, ℕ, List, [], ◌∷◌, Option, Some, None, refl, ap, ◌∙◌, subst}
 use Rattle.std.specs.Prelude.{⊤}
 use Rattle.amo_driver.specs.declared.model.Deed.{Deed}

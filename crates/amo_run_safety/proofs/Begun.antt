@@ -102,7 +102,7 @@ module _ (y : Yard) (said : List (ℕ × ℕ)) (orderly : IsOrderly y said) wher
   -- an event
 
   module _ (e : Event) (may : MayFollow IsOver y (Happens e)) where
-    -- what may begin or runs is none of what is said now
+    -- an intent that may begin or runs isn't one that a note names now
     unsaid_now : (h : Handing) → IsOneOf (y.waiting ++ y.running) h → is_among (openings_by y.site e) h.worker h.serial ≡ false
     unsaid_now h one = false_from_ne_true (is_among (openings_by y.site e) h.worker h.serial) (λ t.
         let over = may.1 h.worker h.serial t in
@@ -233,7 +233,7 @@ module _ (y : Yard) (said : List (ℕ × ℕ)) (orderly : IsOrderly y said) wher
       (split_one (without k y.waiting) y.running h one))
       (λ h one. fewer_wait k h (orderly.begun h one)) orderly.past
 
-  -- where nothing is said
+  -- if no note is made
   as_it_was : (a : Action) → said_by y a ≡ [] → IsOrderly (yard_after y a) said → IsOrderly (yard_after y a) (said ++ said_by y a)
   as_it_was a none it = subst (IsOrderly (yard_after y a)) (sym (ap (λ l. said ++ l) none ∙ append-nil said)) it
 

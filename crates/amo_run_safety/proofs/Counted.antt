@@ -170,7 +170,7 @@ behind_unless m (Clearing n a j) h = absurd (true≢false h)
 behind_unless m (Performing n a j) h = absurd (true≢false h)
 behind_unless m s h = tt
 
--- where the numbers of all intents so far are at most k
+-- if the numbers of all intents so far are at most k
 pub behind_then : (m k : ℕ) → m ≤ k → (s : Stage) (d : Deed) → due s ≡ Some (try_of d) → IsCounted k s → IsBehind m s → IsBehind m (stage_after s d)
 behind_then m k few s d e counted h = any_then (IsBehind m) (IsBehind m) (behind_unless m) (λ x y. y) (λ n a j y. y) s d
     (λ n j is.

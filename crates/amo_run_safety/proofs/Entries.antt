@@ -44,7 +44,7 @@ entry_in_either n line (x ∷ xs) ys (y ∷ front, time, back, e) = ⊎_elim
     (λ (there : HasEntry n line ys). inr there)
     (entry_in_either n line xs ys (front, time, back, ap tail_of e))
 
--- one of the entries behind which only answers stand is no answer
+-- an entry that only answers follow isn't an answer
 pub entry_before : (n line : ℕ) (seen missed : List Entry) → AllByRecursion IsAnswer missed → (front : List Entry) (time : ℕ) (back : List Entry)
     → seen ++ missed ≡ front ++ IntentOf n line time ∷ back → HasEntry n line seen
 entry_before n line [] missed answers front time back e =
@@ -58,7 +58,7 @@ none_behind : (n : ℕ) (front : List Entry) (x : Entry) (back : List Entry) →
 none_behind n [] x back h = h.1
 none_behind n (y ∷ front) x back h = none_behind n front x back h.1
 
--- where none of the entries opens it, its line is closed
+-- if none of the entries opens it, its line is closed
 pub stays_closed : (lines : ℕ) (findings : List Finding) (before after : List (List Attempt)) (es : List Attempt) (entries : List Entry) (n line : ℕ)
     → HasEntry n line entries → NoneOpens n entries → is_undone findings (length before + 1) n ≡ false → journal_of lines entries ≡ Some es
     → is_open findings (before ++ es ∷ after) line ≡ false

@@ -1,5 +1,6 @@
--- There are runs: the machine stops while the only intent is put, and it is lost; a process dies while its partner performs the line;
--- a person says that it wasn't done, and another process performs it in another round.
+-- An example of a run. The machine stops while the only intent is put, and it is lost. A process
+-- dies while its partner performs the line. A person says that it wasn't done, and another process
+-- performs it in another round.
 use Rattle.std.proofs.Common.{◌≡◌, ℕ, zero, suc, ◌≤◌, Bool, true, false, List, [], ◌∷◌, ◌++◌, Some, None, refl, arith, ⊎_elim, subst, sym}
 use Rattle.std.specs.Prelude.{⊤, ◌==◌, ◌&&◌, ◌||◌, if◌then◌else◌}
 use Rattle.std.proofs.lemmas.Bool.{cases_eq, and_parts, eqb-true}

@@ -1,9 +1,9 @@
--- What is kept of a file, and what is read of it, after a put, a settling and a stop.
+-- The entries of a file that are kept, and those that are read, after a put, a settling and a stop.
 use Rattle.std.specs.Prelude.{if◌then◌else◌}
 use Rattle.std.proofs.Common.{◌≡◌, Bool, true, false, ℕ, List, [], ◌∷◌, ◌++◌, take, refl, sym, ap, ◌∙◌, subst, append_assoc, append-nil}
 use Rattle.amo_run_safety.specs.File.{File, read_of, settled, behind, with_unheard, after_put, after_stop}
 
--- new is old with more behind it
+-- new is old and then more
 abbrev pub Grows : {A : Type 0} → List A → List A → Type 0
 Grows {A} old new = (more : List A) × (new ≡ old ++ more)
 
@@ -19,7 +19,7 @@ pub after_grows : {A : Type 0} (failed : Bool) (f : File A) (more : List A) → 
 after_grows true f more = grows_none f.kept
 after_grows false f more = put_grows f.kept f.loose more
 
--- what is read, and behind it what isn't, but a stop may leave
+-- the entries that are read, and then those that aren't, but that a stop may leave
 abbrev pub all_of : {A : Type 0} → File A → List A
 all_of f = f.kept ++ f.loose ++ f.hidden
 
@@ -40,7 +40,7 @@ read_settled f = append-nil (f.kept ++ f.loose)
 pub stopped_all : {A : Type 0} (n : ℕ) (f : File A) → all_of (after_stop n f) ≡ f.kept ++ take n (f.loose ++ f.hidden)
 stopped_all n f = append-nil (f.kept ++ take n (f.loose ++ f.hidden) ++ []) ∙ append-nil (f.kept ++ take n (f.loose ++ f.hidden))
 
--- where nothing is loose, what is put is kept
+-- if nothing is loose, what is put is kept
 
 pub after_tight : {A : Type 0} (failed : Bool) (f : File A) (more : List A) → f.loose ≡ [] → (after_put failed f more).loose ≡ []
 after_tight true f more e = e

@@ -1,4 +1,4 @@
--- What was handed over, and what a later event may do of its line.
+-- The lines that were handed over, and the later events that may be of such a line.
 use Rattle.std.proofs.Common.{◌≡◌, ◌⊎◌, inl, inr, ⊎_elim, ℕ, ◌+◌, ◌≤◌, true, false, List, [], ◌∷◌, ◌++◌, Option, Some, None, take, refl, sym, ap, ◌∙◌, subst, append-nil, append_assoc}
 use Rattle.std.specs.Prelude.{⊤, ◌==◌}
 use Rattle.std.proofs.lemmas.Bool.{true≢false, cases_Bool, eq-eqb, or_left, or_right}
@@ -248,7 +248,7 @@ split_one (x ∷ xs) ys h one = ⊎_elim
     (λ (o : IsOneOf (xs ++ ys) h). ⊎_elim (λ (a : IsOneOf xs h). inl (inr a)) (λ (b : IsOneOf ys h). inr b) (split_one xs ys h o))
     one
 
--- What an event hands over: it is handed over in the last round.
+-- An event hands a line over: in the last round.
 pub record IsNow (w : Site) (e : Event) (h : Handing) : Type 0 where
   pub number : IsNumber h.worker
   pub job : ℕ
@@ -337,7 +337,7 @@ now_handed w said e h now =
           (ap (λ l. has l now.job) (hands_it now.moment h.serial now.job here.tries) ∙ or_left (now.job == now.job) false (eq-eqb now.job now.job refl))));
     }
 
--- a line that was handed over is handed over again only where it was opened
+-- a line that was handed over is handed over again only if it was opened
 pub opened_before : (w : Site) (said : List (ℕ × ℕ)) (e : Event) (h k : Handing) → WasHanded w said h → IsNow w e k → h.line ≡ k.line → is_among said h.worker h.serial ≡ true
 opened_before w said e h k was now same =
     let here = now.here in

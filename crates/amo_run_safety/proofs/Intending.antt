@@ -1,4 +1,5 @@
--- Where a process tries an intent: in the last round, by the lines of which that intent is named.
+-- The place of a process that tries an intent: in the last round, by the lines of which that intent
+-- is named.
 use Rattle.std.proofs.Common.{◌≡◌, ℕ, List, Option, Some, None, refl, sym, ap, ◌∙◌, subst}
 use Rattle.std.proofs.lemmas.Bool.{true≢false}
 use Rattle.amo_sets.specs.Lists.{numbered}

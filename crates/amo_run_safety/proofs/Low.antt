@@ -1,4 +1,5 @@
--- What a process asks for, and notes, is an intent of its journal: its number is at most that of the intents there.
+-- A process asks for intents of its own journal, and notes them: their numbers are at most that of
+-- the intents there.
 use Rattle.std.proofs.Common.{◌≡◌, ℕ, ◌+◌, ◌≤◌, Bool, true, false, List, [], ◌∷◌, length, map, Some, refl, sym, ap, subst, arith}
 use Rattle.std.specs.Prelude.{⊤, is_none, ◌==◌, if◌then◌else◌}
 use Rattle.std.proofs.lemmas.Bool.{true≢false}

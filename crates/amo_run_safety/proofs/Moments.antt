@@ -45,7 +45,7 @@ last_differs (x ∷ xs) j h = ⊎_elim
     (λ n. or_from (x == j) (has xs j) (ne_eqb x j n) (last_differs xs j h.1))
     (cases_eq x j)
 
--- another worker stands where it stood
+-- another worker keeps its stage
 other_stands : (g : Givens) (sc : Scene) (m : Moment) (q : ℕ) → q ≢ worker_of m → stage_at (scene_after g sc m) q ≡ stage_at sc q
 other_stands g sc (Does p d) q n = numbered-put_other Gone (stage_after (stage_at sc p) d) sc.stages p q n
 other_stands g sc (Loses p t) q n = numbered-put_other Gone Broken sc.stages p q n
@@ -64,7 +64,7 @@ module _ (g : Givens) (ms : List Moment) (h : IsHistory g ms) where
   pub others_stand : (m : Moment) (q : ℕ) → q ≢ worker_of m → stage_at (scene_of g (ms ++ m ∷ [])) q ≡ stage_at (scene_of g ms) q
   others_stand m q n = ap (λ (sc : Scene). stage_at sc q) (scene_is m) ∙ other_stands g (scene_of g ms) m q n
 
-  -- where the worker of the last moment stands after it
+  -- the stage of the last moment's worker after it
 
   pub stands_after : (q : ℕ) (d : Deed) → IsWorker g q → stage_at (scene_of g (ms ++ Does q d ∷ [])) q ≡ stage_after (stage_at (scene_of g ms) q) d
   stands_after q d o = ap (λ (sc : Scene). stage_at sc q) (scene_is (Does q d)) ∙ stage_is g (scene_of g ms) (shared_of g shows.0) shows.2 q o (stage_after (stage_at (scene_of g ms) q) d)

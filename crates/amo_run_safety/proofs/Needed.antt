@@ -207,7 +207,7 @@ asking_patience = said_once (λ (y : Yard). y.sent) (map Happens put) then_asked
 pub asking_lines : lines_in (yard_of asking_actions).performed ≡ 1 ∷ 1 ∷ []
 asking_lines = refl
 
--- by all three, where a person says of what was performed that it wasn't
+-- by all three, if a person calls a performed line not done
 
 abbrev until_paid : List Action
 until_paid = map Happens handed ++ whole_command ++ map Happens asked

@@ -1,4 +1,5 @@
--- What is read of a journal after an event: what was read before, and an intent only where a process has just tried it.
+-- The entries that are read of a journal after an event: those that were read before, and an intent
+-- only if a process has just tried it.
 use Rattle.std.proofs.Common.{◌≡◌, ◌⊎◌, inl, inr, ⊎_elim, ℕ, Bool, true, false, List, [], ◌∷◌, ◌++◌, sym, ap, ◌∙◌, subst, append-nil, append_assoc}
 use Rattle.std.specs.List.{AllByRecursion}
 use Rattle.std.proofs.lemmas.Bool.{true≢false}

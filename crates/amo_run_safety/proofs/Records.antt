@@ -1,4 +1,5 @@
--- What a sound record says: its jobs are of different lines, and who began it is one of its workers.
+-- The facts of a sound record: its jobs are of different lines, and the worker that began it is one
+-- of its workers.
 use Rattle.std.proofs.Common.{◌≡◌, ℕ, zero, suc, ◌<◌, ◌≤◌, true, ◌&&◌, List, [], ◌∷◌, length, get_or, Some, refl, ap, arith}
 use Rattle.std.specs.Prelude.{nat_lt, nat_le}
 use Rattle.std.proofs.lemmas.Bool.{and_parts, eqb-true, ltb-true, leb-true}

@@ -1,4 +1,5 @@
--- What holds in each run at each moment, of the intents of which it was said that they weren't begun or done.
+-- The facts that hold in each run at each moment, for the intents that are noted as not begun or
+-- not done.
 use Rattle.std.proofs.Common.{◌≡◌, ⊎_elim, ℕ, true, false, List, [], ◌∷◌, ◌++◌, Option, Some, None, refl, sym, ap, ◌∙◌, subst}
 use Rattle.std.specs.Prelude.{⊤, if◌then◌else◌}
 use Rattle.std.specs.List.{AllByRecursion}
@@ -38,7 +39,7 @@ at_both P f g p x y q same other = ⊎_elim
     (λ (n : q ≡ p → ⊥). subst (λ b. P (if b then x else f q) (if b then y else g q)) (sym (ne_eqb q p n)) (other n))
     (cases_eq q p)
 
--- What happened in the round is a history, and its record is one of its givens.
+-- The events in the round are a history, and its record is one of its givens.
 pub record IsGood (r : Round) : Type 0 where
   pub history : IsHistory r.givens r.moments
   pub sound : is_sound r.written ≡ true
@@ -49,8 +50,8 @@ abbrev pub IsGoodIf : Option Round → Type 0
 IsGoodIf None = ⊤
 IsGoodIf (Some r) = IsGood r
 
--- The worker of the round stands where nothing is loose in its journal, unless something has failed; where it is to hand a job
--- over, the intent is kept; and its serial numbers go by those of the journal.
+-- At the stage of the round's worker nothing is loose in its journal, unless something has failed.
+-- If it is to hand a job over, the intent is kept. Its serial numbers go by those of the journal.
 abbrev pub IsReady : List ℕ → File Entry → Stage → Type 0
 IsReady lines f s = (is_broken s ≡ false → f.loose ≡ []) × IsPut lines f.kept s × IsCounted (intents f.kept) s
 
@@ -89,7 +90,7 @@ pub record IsSane (w : Site) (said : List (ℕ × ℕ)) : Type 0 where
 pub first_sane : IsSane first_site []
 first_sane = record { answers = λ p n h. tt; owed = λ p n h. tt; owing = λ p. tt; findings = λ p n h. refl; rounds = λ k. tt; whereabouts = λ p. tt }
 
--- where nobody was in a round, all may be where they are, whichever rounds there are
+-- if nobody was in a round, all may be at their places, whichever rounds there are
 pub fits_any : (rounds others : ℕ → Option Round) (last next : ℕ) → ((k : ℕ) → IsGoodIf (rounds k)) → (f : File Entry) (p : ℕ) (whereabouts : Whereabouts) → (IsNumber p → is_inside whereabouts ≡ false)
     → Fits rounds last f p whereabouts → Fits others next f p whereabouts
 fits_any rounds others last next good f p Away nobody h = tt

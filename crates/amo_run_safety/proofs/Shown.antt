@@ -1,4 +1,4 @@
--- What the contracts of journals say of a device's file, as a list of entries.
+-- The contracts of journals on a device's file, for a list of entries.
 use Rattle.amo_run_log.specs.Entries.{append_in, appends_in, entries_in, entries_of_append, entries_of_appends}
 use Rattle.amo_run_log.specs.Numbers.{read_all}
 use Rattle.amo_journal.specs.Appends.{IsLog, records_in}

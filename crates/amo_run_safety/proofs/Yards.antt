@@ -76,7 +76,7 @@ without_it h (x ∷ hs) = by ((x.worker == h.worker) && (x.serial == h.serial)) 
     by true e rest = rest
     by false e rest = or_from ((x.worker == h.worker) && (x.serial == h.serial)) (is_among (names_of (without h hs)) h.worker h.serial) e rest
 
--- where the machine may have stopped
+-- if the machine may have stopped
 
 pub still_one : (e : Event) (hs : List Handing) (h : Handing) → IsOneOf (unless_stopped e hs) h → (is_stop e ≡ false) × IsOneOf hs h
 still_one e hs h one = by (is_stop e) refl one

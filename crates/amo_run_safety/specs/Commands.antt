@@ -6,7 +6,7 @@ use Rattle.amo_run_log.specs.Journals.{journal_of}
 use Rattle.amo_run_safety.specs.Site.{Site, first_site, Event, Stops, IsNumber}
 use Rattle.amo_run_safety.specs.Run.{site_after, MayMiss, MayHappen, Handing, handings_by, openings_by, is_among, IsOneOf, names_of, IsKept}
 
--- What happens next.
+-- The next action.
 pub data Action : Type 0 where
   -- this, in the run
   Happens : Event → Action
@@ -25,8 +25,9 @@ pub data Action : Type 0 where
   -- the intent of this worker and serial number is listed as in doubt; it is of this line
   Lists : (worker serial line : ℕ) → Action
 
--- The site of the run; what was handed to runners and may still be begun; the commands of which something is left here; those whose
--- requests are under way; all commands that have begun, and all that have performed their line, in their order.
+-- The site of the run, and its commands. Intents that were handed to runners may still be begun.
+-- Some commands have something left here, and some have requests under way. Two lists have all
+-- commands that have begun, and all that have performed their line, in their order.
 pub record Yard : Type 0 where
   pub site : Site
   pub waiting : List Handing
@@ -105,7 +106,7 @@ abbrev pub AreActionsFrom : (over : Yard → (p n : ℕ) → Type 0) → Yard �
 AreActionsFrom over y [] = ⊤
 AreActionsFrom over y (a ∷ actions) = MayFollow over y a × AreActionsFrom over (yard_after y a) actions
 
--- these may happen from the first on, where an intent is over by this
+-- these actions may happen from the first on, if an intent is over by this
 abbrev pub AreActionsBy : (over : Yard → (p n : ℕ) → Type 0) → List Action → Type 0
 AreActionsBy over actions = AreActionsFrom over first_yard actions
 

@@ -1,14 +1,15 @@
--- The entries of a file that is only added to, and what is left of them where the machine stops.
+-- The entries of a file that is only added to, and those that are left if the machine stops.
 use Rattle.std.specs.Prelude.{ℕ, Bool, true, false, List, [], ◌∷◌, ◌++◌, take}
 
--- The entries in their order: those that every stop of the machine leaves; behind them those that are read as well, but that a stop may
--- take; and then those that aren't read, but that a stop may leave, since their put has failed.
+-- The entries in their order, in three parts. Every stop of the machine leaves the first. The
+-- second are read as well, but a stop may take them. The third aren't read, but a stop may leave
+-- them, since their put has failed.
 pub record File (A : Type 0) : Type 0 where
   pub kept : List A
   pub loose : List A
   pub hidden : List A
 
--- there are none
+-- an empty file
 abbrev pub empty : {A : Type 0} → File A
 empty = record { kept = []; loose = []; hidden = [] }
 
@@ -20,7 +21,8 @@ read_of f = f.kept ++ f.loose
 abbrev pub settled : {A : Type 0} → File A → File A
 settled f = record { kept = f.kept ++ f.loose; loose = []; hidden = [] }
 
--- these entries behind those that are kept and those that are loose: what stands behind a loose one is as loose
+-- these entries after those that are kept and those that are loose: an entry after a loose one is
+-- as loose
 abbrev pub behind : {A : Type 0} → (kept loose more : List A) → File A
 behind kept [] more = record { kept = kept ++ more; loose = []; hidden = [] }
 behind kept (x ∷ loose) more = record { kept = kept; loose = x ∷ loose ++ more; hidden = [] }
@@ -29,7 +31,7 @@ behind kept (x ∷ loose) more = record { kept = kept; loose = x ∷ loose ++ mo
 abbrev pub with_put : {A : Type 0} → File A → List A → File A
 with_put f more = behind f.kept f.loose more
 
--- with these entries, of whose puts nobody has heard
+-- with these entries, whose puts returned to nobody
 abbrev pub with_unheard : {A : Type 0} → File A → List A → File A
 with_unheard f more = record { kept = f.kept; loose = f.loose ++ more; hidden = [] }
 

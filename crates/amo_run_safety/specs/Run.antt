@@ -86,13 +86,13 @@ intent_of i = record { serial = i.0; line = i.1 }
 abbrev pub left_in : List Attempt → List Intent
 left_in es = map intent_of (pending_from 1 es)
 
--- where the process is after this deed; in a round the history says where it stands
+-- the place of the process after this deed; in a round the history has its stage
 abbrev pub whereabouts_after : Whereabouts → Deed → Whereabouts
 whereabouts_after Away d = Away
 whereabouts_after (Before s) d = Before (stage_after s d)
 whereabouts_after (Inside k q) d = Inside k q
 
--- where it is that never hears what came of its try
+-- the place of a process that never learns the result of its try
 abbrev pub whereabouts_missing : Whereabouts → Whereabouts
 whereabouts_missing Away = Away
 whereabouts_missing (Before s) = Before Broken
@@ -103,7 +103,7 @@ abbrev pub with_moment : Moment → Option Round → Option Round
 with_moment m None = None
 with_moment m (Some r) = Some (record r { moments = r.moments ++ m ∷ [] })
 
--- the rounds, where this happens to a process that is here; by the worker as which it acts
+-- the rounds, if this happens to a process that is here; by the worker as which it acts
 abbrev pub with_moment_at : Whereabouts → (ℕ → Moment) → (ℕ → Option Round) → ℕ → Option Round
 with_moment_at Away moment rounds = rounds
 with_moment_at (Before s) moment rounds = rounds
@@ -207,7 +207,7 @@ MayAct rounds Away d = ⊥
 MayAct rounds (Before s) d = due s ≡ Some (try_of d)
 MayAct rounds (Inside k q) d = MayBeIn (rounds k) (Does q d)
 
--- this may come about behind its back: what is due
+-- this may come about unknown to the process: the try that is due
 abbrev pub MayMiss : (ℕ → Option Round) → Whereabouts → Try → Type 0
 MayMiss rounds Away t = ⊥
 MayMiss rounds (Before s) t = due s ≡ Some t
@@ -217,7 +217,7 @@ MayMiss rounds (Inside k q) t = MayBeIn (rounds k) (Loses q t)
 abbrev pub IsOwing : Site → (p : ℕ) → Type 0
 IsOwing w p = w.owed p ≡ [] → ⊥
 
--- A person speaks of an intent of which it is known that every stop leaves it: the journal was settled behind it.
+-- A person speaks of an intent that every stop is known to leave: the journal was settled after it.
 pub record IsOfIntent (w : Site) (f : Finding) : Type 0 where
   pub attempts : List Attempt
   pub journal : journal_of w.lines (w.journals f.worker).kept ≡ Some attempts
@@ -318,7 +318,7 @@ abbrev pub is_among : List (ℕ × ℕ) → (p n : ℕ) → Bool
 is_among [] p n = false
 is_among (i ∷ is) p n = ((i.0 == p) && (i.1 == n)) || is_among is p n
 
--- Of what was handed over, this tells what was performed. None of these intents was.
+-- This test says which intents were performed. None of these intents was.
 abbrev pub AreUnperformed : (performed : ℕ → ℕ → Bool) → List (ℕ × ℕ) → Type 0
 AreUnperformed performed is = (p n : ℕ) → is_among is p n ≡ true → performed p n ≡ false
 

@@ -1,4 +1,4 @@
--- What there is of a run at a moment, and what may happen to it.
+-- The state of a run at a moment, and the events that may happen to it.
 use Rattle.std.specs.Prelude.{ℕ, ◌≤◌, Bool, true, false, List, [], Option, Some, None, ◌==◌, if◌then◌else◌}
 use Rattle.amo_givens.specs.declared.givens.Givens.{Givens}
 use Rattle.amo_givens.specs.declared.limits.TheConstants.{MAX_WORKERS}
@@ -12,9 +12,9 @@ use Rattle.amo_run_log.specs.declared.journal.Attempt.{Attempt}
 use Rattle.amo_run_files.specs.Records.{RecordView}
 use Rattle.amo_run_safety.specs.File.{File, empty}
 
--- Where the process of a worker is. There is at most one: it holds the lock of the worker's journal.
+-- The place of worker p's process. There is at most one: it holds the lock of the worker's journal.
 pub data Whereabouts : Type 0 where
-  -- there is none, or it is dead
+  -- no process lives
   Away : Whereabouts
   -- it has settled its journal, and asks for the intents that former processes have left
   Before : Stage → Whereabouts
@@ -45,20 +45,21 @@ pub record Site : Type 0 where
 abbrev pub first_site : Site
 first_site = record { journals = λ p. empty; findings = empty; owed = λ p. []; lines = 0; rounds = λ k. None; last = 0; joinable = false; whereabouts = λ p. Away }
 
--- What happens next. A first number is the worker's.
+-- The next event. A first number is the worker's.
 pub data Event : Type 0 where
   -- the process of the worker dies, or leaves its round; what it owes is lost
   Dies : ℕ → Event
   -- A process of the worker begins, the one before it being dead. Its journal says this, and it settles it.
   Starts : ℕ → List Attempt → Event
-  -- a round is begun with these givens and this record, where the run knows so many lines
+  -- a round is begun with these givens and this record, and the run knows so many lines
   RoundBegins : Givens → RecordView → (lines : ℕ) → Event
   -- The process joins the last round, as this one of its workers. The last is the serial number of its next intent.
   Joins : ℕ → (seat serial : ℕ) → Event
   -- At this time the process has done this, and knows it. If it fell, it has not come about; but of the entries that it was to append a
   -- stop of the machine may leave some.
   Acts : ℕ → (time : ℕ) → Deed → Event
-  -- At this time what the process tries comes about, and it never hears of it: the call fails, or it dies in it.
+  -- At this time the try of the process comes about, and it never learns of it: the call fails, or
+  -- it dies in it.
   Misses : ℕ → (time : ℕ) → Try → Event
   -- the process appends what it owes, without an intent, and knows that it is written
   Pays : ℕ → Event
@@ -68,7 +69,7 @@ pub data Event : Type 0 where
   PaysUnread : ℕ → Event
   -- a person says what became of an intent
   Says : Finding → Event
-  -- it is written, and nobody hears that it is
+  -- it is written, and nobody learns that it is
   SaysUnheard : Finding → Event
   -- the put of it fails, and it isn't read, but a stop of the machine may leave it
   SaysUnread : Finding → Event

@@ -1,4 +1,4 @@
--- What a command of `amo_show` writes, and what it leaves.
+-- The effect of a command of `amo_show`: the text that it writes, and the streams that it leaves.
 use Rattle.std.specs.Prelude.{◌≡◌, ℕ, List, Option, Result, Ok}
 use Rattle.std.specs.Io.KnownBytes.{Keeps}
 use Rattle.amo_plan.specs.Plan.{PlanSeen, plan_of}
@@ -19,7 +19,8 @@ use Rattle.amo_show_commands.specs.declared.told.Told.TheVariants.{Explanation, 
 use Rattle.amo_show_commands.specs.declared.show.Show.{Show}
 use Rattle.amo_show_commands.specs.declared.show.Show.TheVariants.{Run, Explain, Judge, JudgeRun, Worst, All}
 
--- the text begins with the line `taken` where the bytes are a plan, and with the line of their fault where they are none
+-- the text begins with the line `taken` if the bytes are a plan, and otherwise with the line of
+-- their fault
 abbrev pub Explains : List ℕ → List ℕ → Type 0
 Explains bytes text = BeginsWith (explanation_head (plan_of bytes)) text
 
@@ -27,13 +28,13 @@ Explains bytes text = BeginsWith (explanation_head (plan_of bytes)) text
 abbrev pub Judges : List ℕ → List ℕ → Type 0
 Judges bytes text = text ≡ judgement bytes
 
--- the text is what is told of these bytes
+-- the text is the one on these bytes
 abbrev pub IsTold : Told → List ℕ → List ℕ → Type 0
 IsTold Explanation = Explains
 IsTold Judgement = Judges
 IsTold RunJudgement = IsAnswer
 
--- the text with the worst schedule; each plan has it, or the line that says why there is none
+-- the text with the worst schedule; each plan has it, or else the line that says why it is missing
 abbrev pub worst_text_of : PlanSeen → Result (List ℕ) PlanFault
 worst_text_of plan = Ok (worst_of plan)
 
@@ -46,7 +47,7 @@ writes JudgeRun = WritesOf (IsTold RunJudgement)
 writes Worst = Writes worst_text_of
 writes All = WritesOf IsAllOfBytes
 
--- what is left where it was not written whole; to explain and to judge no bytes are a fault, but where they are too many
+-- the streams after a fault; to explain and to judge, bytes are a fault only if they are too many
 abbrev pub refuses : Show → ReplayFault → Left
 refuses (Run shown) fault = Refuses (text_of shown) fault
 refuses Explain fault = RefusesOf (IsTold Explanation) (λ _ _. ⊥) fault
@@ -59,7 +60,7 @@ refuses All fault = RefusesOf IsAllOfBytes AreNoPlan fault
 abbrev pub others : Show → Left
 others show known old new = ⊥
 
--- where the plan was refused nothing was written
+-- nothing was written if the plan was refused
 pub plan_keeps : (show : Show) (f : PlanFault) (known old new : Option (List ℕ)) → refuses show (replay.Plan f) known old new → Keeps old new
 plan_keeps (Run shown) f known old new h = h.2
 plan_keeps Explain f known old new h = h.1

@@ -1,5 +1,7 @@
-//! All that the program `amo_show` does, over any source and any two sinks: which words are a
-//! command, and what each command writes of the plan, the history or the log that is read.
+//! The commands of the program `amo_show`, over any source and any two sinks.
+//!
+//! Start at [`Show`]: the words that are a command, and the text that each command writes on the
+//! plan, the history or the log that is read.
 #![tactic(auto)]
 
 mod show;

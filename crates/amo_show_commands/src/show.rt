@@ -1,4 +1,4 @@
-//! What the words of a command line ask for, and how it is done.
+//! The commands of `amo_show`, and how they are done.
 ghost use Rattle.std.specs.Prelude.{◌≡◌, map, string_bytes};
 ghost use Rattle.std.specs.Option.{ok_or};
 ghost use Rattle.amo_cli.specs.declared.fault.Fault.TheVariants.{NoCommand};
@@ -16,22 +16,22 @@ use std::alloc::Global;
 /// A command of `amo_show`.
 #[derive(Clone, Copy, Debug, PartialEq, Eq)]
 pub enum Show {
-    /// To write this text of the run of the plan that is read.
+    /// Write this text of the run of the plan that is read.
     Run(Shown),
-    /// To write what the plan that is read asks for, or what is wrong with it.
+    /// Write the request of the plan that is read, or its fault.
     Explain,
-    /// To write what the judge says of the history that is read.
+    /// Write the verdict on the history that is read.
     Judge,
-    /// To write the answer to the log of a run that is read.
+    /// Write the verdict on the log of a run that is read.
     JudgeRun,
-    /// To write the plan that leaves the fewest jobs of the one that is read performed.
+    /// Write the plan that leaves the fewest jobs of the one that is read performed.
     Worst,
-    /// To write what all worlds come to that the jobs and workers of the plan that is read can
+    /// Write the results of all worlds that the jobs and workers of the plan that is read can
     /// reach.
     All,
 }
 
-/// What one word asks for.
+/// Returns the command of one word.
 fn command_asked(word: &str) -> Option<Show>
     ensures { result ≡ command_asked word.now }
 {
@@ -46,7 +46,7 @@ fn command_asked(word: &str) -> Option<Show>
     }
 }
 
-/// Returns what a word and its option ask for.
+/// Returns the command of a word and its option.
 fn option_asked(word: &str, option: &str) -> Option<Show>
     ensures { result ≡ option_asked word.now option.now }
 {
@@ -56,7 +56,7 @@ fn option_asked(word: &str, option: &str) -> Option<Show>
     None
 }
 
-/// What all words of a command line ask for, the program's name first.
+/// Returns the command of all words of a command line, the program's name first.
 fn asked(words: &[String]) -> Option<Show>
     ensures { result ≡ asked_after_name (map string_bytes words.now) }
 {
@@ -81,8 +81,11 @@ impl<R: Sync> Command<R> for Show {
 
     ghost others = { others };
 
-    /// What the words ask for, or `NoCommand` where they are no command. It takes no memory, and so
-    /// never answers `NoMemory`.
+    /// Returns the command of the words. It takes no memory, and so never returns `NoMemory`.
+    ///
+    /// # Errors
+    ///
+    /// `NoCommand` if the words are no command.
     fn of_words(_alloc: Global, words: &[String]) -> Result<Show, Fault>
         ensures { result ≡ ok_or (asked_after_name (map string_bytes words.now)) NoCommand }
     {

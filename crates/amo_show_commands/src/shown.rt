@@ -1,4 +1,4 @@
-//! Which text shows a run, and the text.
+//! The texts that show a run.
 use amo_plan::Plan;
 use amo_render::{PlanText, ReplayFault};
 use amo_svg::picture_text;
@@ -21,7 +21,7 @@ impl PlanText for Shown {
 
     ghost made = { text_of };
 
-    /// The text. The only error is out of memory.
+    /// Returns the text. Fails if there was no memory.
     fn make(&self, alloc: Global, plan: &Plan) -> Result<String, ReplayFault> {
         match *self {
             Shown::Trace => Ok(trace_text(alloc, plan)?),

@@ -1,15 +1,15 @@
-//! The texts of whatever bytes are read.
+//! The texts on any bytes.
 use amo_explain::explanation;
 use amo_judge::judgement;
 use amo_render::{BytesText, ReplayFault};
 use amo_run_judge::run_judgement;
 use std::alloc::Global;
 
-/// What is told of bytes, whatever they are.
+/// A text on bytes, whatever they are.
 pub(crate) enum Told {
-    /// What a plan asks for, or what is wrong with it.
+    /// The request of a plan, or its fault.
     Explanation,
-    /// What the judge says of a history.
+    /// The verdict of the judge on a history.
     Judgement,
     /// The answer to the log of a run.
     RunJudgement,

@@ -1,4 +1,4 @@
--- What stands at a place of a file with bytes written over it, and its parts.
+-- The byte at a place of a file with bytes written over it, and the parts of the file.
 use Rattle.std.proofs.Common.{◌≡◌, inl, inr, ℕ, zero, suc, ◌+◌, ◌-◌, ◌<◌, ◌≤◌, min, List, [], ◌∷◌, ◌++◌, length, take, drop, refl, sym, ◌∙◌, ap, arith, append_assoc, length-append, length-take, length-drop}
 use Rattle.std.specs.List.{slice_get}
 use Rattle.std.proofs.lemmas.Bool.{cases_lt}
@@ -55,7 +55,7 @@ module _ (at : ℕ) (bytes file : List ℕ) where
       ∙ drop-drop (at + n - length (take at file ++ bytes)) (at + length bytes) file
       ∙ same_end n (at + n - length (take at file ++ bytes)) is
 
-  -- before the bytes, among them, and behind them
+  -- before the bytes, among them, and after them
   pub get_before : at ≤ length file → (i : ℕ) → i < at → slice_get (with_bytes at bytes file) i ≡ slice_get file i
   get_before le i lt =
       get-front (take at file ++ bytes) (drop (at + length bytes) file) i (omega (arith, length-append (take at file) bytes, length-take at file))

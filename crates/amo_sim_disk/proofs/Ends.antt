@@ -1,4 +1,4 @@
--- What holds however a call ends.
+-- Facts that hold at both ends of a call.
 use Rattle.std.proofs.Common.{◌≡◌, ◌⊎◌, inl, inr, ℕ, zero, suc, ◌/◌, ◌≤◌, Bool, true, false, List, length, drop, Result, Ok, Err, Vec, Global, sym, ◌∙◌, subst, arith}
 use Rattle.amo_journal.specs.Device.{WritesFront}
 use Rattle.amo_journal.specs.declared.device.DeviceError.{DeviceError}

@@ -21,7 +21,7 @@ last_or_before [] call it (suc i) is = absurd (cc is)
 last_or_before (c ∷ calls) call it zero is = inl is
 last_or_before (c ∷ calls) call it (suc i) is = ⊎_elim (λ before. inl before) (λ last. inr (last.0, ap suc last.1)) (last_or_before calls call it i is)
 
--- the plan is kept where it says of the call what became of it
+-- the plan is kept if it has the call as it ended
 pub planned_push : (failing : Option ℕ) (calls later : List Call) (call : Call) → FailsAsPlanned failing calls
     → has_failed call ≡ is_planned failing (length calls) → later ≡ calls ++ call ∷ [] → FailsAsPlanned failing later
 planned_push failing calls later call kept here is number it stands =

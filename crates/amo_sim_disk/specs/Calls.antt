@@ -16,7 +16,7 @@ has_failed (FailedCut len) = true
 has_failed Sync = false
 has_failed FailedSync = true
 
--- whether the call of this number is to fail, where the first has the number 0
+-- whether the call of this number is to fail; the first call has the number 0
 abbrev pub is_planned : Option ℕ → ℕ → Bool
 is_planned None number = false
 is_planned (Some planned) number = planned == number
@@ -40,7 +40,7 @@ read_after (FailedCut len) read = read
 read_after Sync read = read
 read_after FailedSync read = read
 
--- the call that is made, where it is to fail and where it isn't
+-- the call that is made, if it is to fail and if it isn't
 abbrev pub read_call : Bool → Call
 read_call false = Read
 read_call true = FailedRead

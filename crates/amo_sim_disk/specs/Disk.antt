@@ -1,4 +1,4 @@
--- What a disk shows of itself.
+-- The parts of a disk that contracts see.
 use Rattle.std.specs.Prelude.{ℕ, List, take, Option}
 use Rattle.amo_sim_disk.specs.declared.call.Call.{Call}
 use Rattle.amo_sim_disk.specs.declared.disk.Disk.{Disk}

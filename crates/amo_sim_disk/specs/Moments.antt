@@ -1,4 +1,5 @@
--- What a crash since some moment might have left. A moment is the number of calls until then.
+-- The contents that a crash since some moment might have left. A moment is the number of calls
+-- until then.
 use Rattle.std.specs.Prelude.{ℕ, zero, suc, ◌≤◌, List, [], ◌∷◌, length, drop}
 use Rattle.std.proofs.Common.{le_trans, length-drop, lt-suc_self, lt_irrefl, lt_of_lt_of_le, sub-le, subst}
 use Rattle.amo_journal.specs.Device.{Elapses}

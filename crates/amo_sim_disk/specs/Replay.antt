@@ -1,4 +1,5 @@
--- What a disk comes to by the calls that were made of it: what is read, what a crash may leave, and which places are stale.
+-- The state of a disk by its calls: the bytes that are read, those that a crash may leave, and the
+-- stale places.
 use Rattle.std.specs.Prelude.{◌≡◌, ◌⊎◌, ℕ, ◌<◌, List, [], ◌∷◌, length, reverse, count_by, Option, Result, Ok, Err, Bool, true, false}
 use Rattle.amo_journal.specs.Device.{AgreesBut, CutFrom, Differs, IsOutside, TornFrom}
 use Rattle.amo_journal.specs.declared.device.DeviceError.{DeviceError}
@@ -7,14 +8,15 @@ use Rattle.amo_sim_disk.specs.declared.call.Call.{Call}
 use Rattle.amo_sim_disk.specs.declared.call.Call.TheVariants.{Read, FailedRead, Write, FailedWrite, Cut, FailedCut, Sync, FailedSync}
 use Rattle.amo_sim_disk.specs.Calls.{has_failed, is_planned, read_after}
 
--- What is read, what a crash may leave, and where the disk may have another byte than is read though no sync is going to write it.
+-- The bytes that are read, the contents that a crash may leave, and the stale places. A place is
+-- stale if the disk may have another byte there though no sync is going to write it.
 pub record State : Type 1 where
   pub read : List ℕ
   pub outcomes : List ℕ → Type 0
   pub stale : ℕ → Type 0
 
--- What a crash may leave after a call. A write is torn, and a cut is at some length between, also where it failed. After a sync
--- each byte stands as it is read, but for stale places.
+-- The contents that a crash may leave after a call. A write is torn. A cut is at some length
+-- between, even if it failed. After a sync each byte stands as it is read, but for stale places.
 abbrev pub OutcomeAfter : Call → State → List ℕ → Type 0
 OutcomeAfter Read s image = s.outcomes image
 OutcomeAfter FailedRead s image = s.outcomes image
@@ -25,8 +27,9 @@ OutcomeAfter (FailedCut len) s image = CutFrom len s.outcomes image
 OutcomeAfter Sync s image = s.outcomes image × AgreesBut s.stale s.read image
 OutcomeAfter FailedSync s image = s.outcomes image
 
--- Which places are stale after a call. A write ends it where it writes, and a cut behind its length. A sync that failed makes each
--- place stale where some crash would have left another byte than is read.
+-- The places that are stale after a call. A write ends that in its range, and a cut after its
+-- length. A sync that failed makes each place stale at which some crash would have left another
+-- byte than is read.
 abbrev pub StaleAfter : Call → State → ℕ → Type 0
 StaleAfter Read s i = s.stale i
 StaleAfter FailedRead s i = s.stale i
@@ -44,7 +47,8 @@ state_after first (call ∷ earlier) =
     let s = state_after first earlier in
     record { read = read_after call s.read; outcomes = OutcomeAfter call s; stale = StaleAfter call s }
 
--- What a disk had at first, the number of the call that is to fail, and the calls since, the latest first.
+-- The bytes of a disk at first, the number of the call that is to fail, and the calls since, the
+-- latest first.
 pub record Story : Type 0 where
   pub first : List ℕ
   pub failing : Option ℕ
@@ -79,14 +83,14 @@ call_count story = length story.calls
 abbrev pub fault_count : Story → ℕ
 fault_count story = count_by has_failed story.calls
 
--- What this call leaves: it is noted and answered, or there was no memory, and nothing has changed.
+-- This call is noted and returned, or there was no memory, and nothing has changed.
 abbrev pub LeavesNoted : Call → Story → Story → Result (Unit {0}) DeviceError → Type 0
 LeavesNoted call old new (Ok done) = (new ≡ noted call old) × (has_failed call ≡ false)
 LeavesNoted call old new (Err Failed) = (new ≡ noted call old) × (has_failed call ≡ true)
 LeavesNoted call old new (Err Memory) = new ≡ old
 
--- What a call leaves that is such a call where it is to fail, and such a call where it isn't: one like it is noted and answered, or
--- there was no memory, and nothing has changed.
+-- A call is noted and returned that is of one kind if it is to fail, and of the other if it isn't.
+-- Or there was no memory, and nothing has changed.
 abbrev pub Leaves : {T : Type 0} → (Bool → Call → Type 0) → Story → Story → Result T DeviceError → Type 0
 Leaves Is old new (Ok x) = (call : Call) × Is false call × (new ≡ noted call old) × (fails_next old ≡ false)
 Leaves Is old new (Err Failed) = (call : Call) × Is true call × (new ≡ noted call old) × (fails_next old ≡ true)

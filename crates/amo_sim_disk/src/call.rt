@@ -1,23 +1,22 @@
-//! The calls that a disk was asked for, and what is read after each.
+//! The calls of a disk, and the bytes that are read after each.
 ghost use Rattle.std.specs.Prelude.{◌≡◌, IfOk};
 ghost use Rattle.amo_sim_disk.specs.Calls.{cut_call, has_failed, read_after, read_call, sync_call, with_bytes, write_call};
 
 use std::alloc::{AllocError, Global};
 
-/// A call that was made of a disk, and whether the disk failed at it.
+/// A call of a disk, and whether the disk failed at it.
 #[derive(Debug, PartialEq, Eq, Drop)]
 pub enum Call {
     /// All the bytes were read.
     Read,
     /// Nothing was read.
     FailedRead,
-    /// These bytes were written over what was there, from the byte of this number on, and past the
-    /// end.
+    /// Bytes were written over the old ones, from the byte of this number on, and past the end.
     Write {
         at: usize,
         bytes: Vec<u8>,
     },
-    /// Of these bytes only so many, the first of them, were written.
+    /// Only so many of these bytes, the first of them, were written.
     FailedWrite {
         at: usize,
         bytes: Vec<u8>,
@@ -32,10 +31,10 @@ pub enum Call {
     FailedCut {
         len: usize,
     },
-    /// What is read was brought to the disk, but for stale places.
+    /// The bytes that are read came to the disk, but for stale places.
     Sync,
-    /// Nothing was brought to the disk, and each place where it may have another byte than is read
-    /// is stale from then on.
+    /// Nothing came to the disk. Each place at which it may have another byte than is read is stale
+    /// from then on.
     FailedSync,
 }
 
@@ -53,7 +52,7 @@ impl Call {
         }
     }
 
-    /// What is read after the call, where these bytes were read before it.
+    /// Returns the bytes that are read after the call, if these were read before it.
     pub(crate) fn read_after(&self, alloc: Global, bytes: &[u8]) -> Result<Vec<u8>, AllocError>
         ensures { IfOk result (λ after. after.items ≡ read_after self.now bytes.now) }
     {
@@ -74,7 +73,7 @@ impl Call {
     }
 }
 
-/// The bytes with others written over them, or behind them where they don't reach so far.
+/// Returns the bytes with others written over them, or after them if they don't reach so far.
 pub(crate) fn written_over(
     alloc: Global,
     bytes: &[u8],
@@ -92,7 +91,7 @@ pub(crate) fn written_over(
     Ok(after)
 }
 
-/// A read, which fails or doesn't.
+/// Returns a read, which fails or doesn't.
 pub(crate) fn read_call(fails: bool) -> Call
     ensures call { result ≡ read_call fails }
     ensures failed { has_failed result ≡ fails }
@@ -100,7 +99,7 @@ pub(crate) fn read_call(fails: bool) -> Call
     if fails { Call::FailedRead } else { Call::Read }
 }
 
-/// A write, which writes half the bytes where it fails.
+/// Returns a write. If it fails, it writes half the bytes.
 pub(crate) fn write_call(fails: bool, at: usize, bytes: Vec<u8>) -> Call
     ensures call { result ≡ write_call fails at bytes }
     ensures failed { has_failed result ≡ fails }
@@ -113,7 +112,7 @@ pub(crate) fn write_call(fails: bool, at: usize, bytes: Vec<u8>) -> Call
     }
 }
 
-/// A cut, which cuts nothing where it fails.
+/// Returns a cut. If it fails, it cuts nothing.
 pub(crate) fn cut_call(fails: bool, len: usize) -> Call
     ensures call { result ≡ cut_call fails len }
     ensures failed { has_failed result ≡ fails }
@@ -125,7 +124,7 @@ pub(crate) fn cut_call(fails: bool, len: usize) -> Call
     }
 }
 
-/// A sync, which leaves stale places where it fails.
+/// Returns a sync. If it fails, it leaves stale places.
 pub(crate) fn sync_call(fails: bool) -> Call
     ensures call { result ≡ sync_call fails }
     ensures failed { has_failed result ≡ fails }

@@ -8,10 +8,10 @@ use crate::tearing::image_of;
 use amo_journal::{Device, DeviceError};
 use std::alloc::{AllocError, Global};
 
-/// A disk in memory that tears and fails, for tests. What is read of it is what was written. What a
-/// crash may leave is any image that a device may leave after the calls that were made. One call
-/// may be planned to fail: then a read reads nothing, a write writes half its bytes, rounded down,
-/// a cut cuts nothing that is read, and a sync leaves stale places.
+/// `Disk`: a disk in memory that tears and fails, for tests. A read returns what was written. A
+/// crash may leave any image that a device may leave after these calls. One call may be planned to
+/// fail. Then a read reads nothing, a write writes half its bytes, rounded down, a cut cuts nothing
+/// that is read, and a sync leaves stale places.
 #[derive(Drop)]
 pub struct Disk {
     alloc: Global,
@@ -27,9 +27,13 @@ impl Disk {
     ghost use Rattle.amo_journal.specs.Device.{Only};
     ghost use Rattle.amo_sim_disk.specs.Disk.{disk_calls, disk_failing, disk_story, disk_story_after};
 
-    /// A disk that has these bytes and no others. The call of the number that is given fails, where
-    /// the first call has the number 0, and reads, writes, cuts and syncs count alike. A call that
-    /// there was no memory for doesn't count, and changes nothing.
+    /// Returns a disk that has these bytes and no others. The call with the number `failing` fails.
+    /// The first call has the number 0, and reads, writes, cuts and syncs count alike. A call that
+    /// fails for want of memory doesn't count, and changes nothing.
+    ///
+    /// # Errors
+    ///
+    /// `AllocError` if there was no memory.
     pub fn new(alloc: Global, bytes: &[u8], failing: Option<usize>) -> Result<Self, AllocError>
         ensures read { IfOk result (λ disk. read_in (disk_story disk) ≡ bytes.now) }
         ensures durable { IfOk result (λ disk. Only bytes.now (OutcomeIn (disk_story disk))) }
@@ -46,7 +50,7 @@ impl Disk {
         })
     }
 
-    /// What is read. A crash may leave just that.
+    /// Returns the bytes that are read. A crash may leave just these.
     pub fn bytes(&self) -> &[u8]
         ensures read { result.now ≡ read_in (disk_story self.now) }
         ensures possible { OutcomeIn (disk_story self.now) result.now }
@@ -54,8 +58,8 @@ impl Disk {
         &self.bytes
     }
 
-    /// The calls that were made, in their order. That of the number which was given failed, and no
-    /// other.
+    /// Returns the calls that were made, in their order. That of the number which was given failed,
+    /// and no other.
     pub fn calls(&self) -> &[Call]
         ensures calls { result.now ≡ disk_calls self.now }
         ensures failed { FailsAsPlanned (disk_failing self.now) result.now }
@@ -63,13 +67,19 @@ impl Disk {
         &self.calls
     }
 
-    /// An image that a crash might have left after so many of the calls, or after all where there
-    /// were fewer, by what had come to the disk of each. `came` has, at the number of a write,
-    /// bytes for the first of those that it was asked to write: a byte that is right came to the
-    /// disk; for any other one the old byte stands, or 0 past the image's end. Nothing comes where
-    /// the image ends before the place of the write. At the number of a cut it has as many bytes as stay behind
-    /// the length. A sync that succeeded leaves what is read. Past the end of `came`, no byte comes
-    /// or stays.
+    /// Returns an image that a crash might have left after the first `calls` calls, or after all if
+    /// there were fewer. `came` says which bytes had come to the disk.
+    ///
+    /// - At the number of a write it has bytes for the first of those to be written. A byte that is
+    ///   right came to the disk. For any other byte the old one stands, or 0 past the image's end.
+    ///   Nothing comes if the image ends before the place of the write.
+    /// - At the number of a cut it has as many bytes as stay after the length.
+    /// - A sync that succeeded leaves what is read.
+    /// - Past the end of `came`, no byte comes or stays.
+    ///
+    /// # Errors
+    ///
+    /// `AllocError` if there was no memory.
     pub fn image_after(
         &self,
         alloc: Global,
@@ -137,8 +147,8 @@ impl Device for Disk {
 
     ghost only_now = { λ disk. now_alone (disk_story disk) };
 
-    // What a device ensures follows from these clauses: each says what the call leaves, and that
-    // time goes on.
+    // These clauses imply the clauses of a device: each states what the call leaves, and that time
+    // goes on.
 
     fn read(&mut self, alloc: Global) -> Result<Vec<u8>, DeviceError>
         ensures ends { Leaves (λ fails call. call ≡ read_call fails) (disk_story self.old) (disk_story self.new) result }

@@ -1,7 +1,9 @@
-//! A disk in memory that tears and fails, for tests. A write that wasn't synced is torn by a crash
-//! in any of the ways that a device allows, and one call, of a number that is given, fails. It
-//! keeps what it had at first and each call since, from which follows what is read, what a crash
-//! may leave, and which places are stale.
+//! A disk in memory that tears and fails, for tests.
+//!
+//! Start at [`Disk`]. A crash tears a write that wasn't synced in any of the ways that a device
+//! allows. One call, of a number that the test chooses, fails. The disk keeps its first bytes and
+//! each call since. From these follow the bytes that are read, the contents that a crash may leave,
+//! and the stale places.
 #![tactic(auto)]
 
 mod call;

@@ -1,4 +1,4 @@
-//! What a crash may leave of an image, call by call.
+//! The images that a crash may leave, call by call.
 ghost use Rattle.std.specs.Prelude.{◌≡◌, ◌<◌, ℕ, Some, length, slice_get, IfOk};
 ghost use Rattle.amo_journal.specs.Device.{Cut, Torn};
 ghost use Rattle.amo_sim_disk.specs.Tearing.{IsOldOrNew};
@@ -7,8 +7,8 @@ ghost use Rattle.amo_sim_disk.specs.Replay.{OutcomeIn, Story, noted, read_in};
 use crate::call::{Call, written_over};
 use std::alloc::{AllocError, Global};
 
-/// What a crash after the call may leave, where these bytes were read before it and a crash might
-/// have left this image.
+/// Returns an image that a crash after the call may leave. These bytes were read before the call,
+/// and a crash might have left this image then.
 pub(crate) fn image_of(
     alloc: Global,
     call: &Call,
@@ -30,8 +30,8 @@ pub(crate) fn image_of(
     }
 }
 
-/// What a write of so many bytes may leave of an image, where this is read after it and these bytes
-/// came.
+/// Returns an image that a write of so many bytes may leave. This is read after the write, and
+/// these bytes came.
 fn torn(
     alloc: Global,
     at: usize,
@@ -51,8 +51,8 @@ fn torn(
     written_over(alloc, image, at, &bytes)
 }
 
-/// Returns, of each byte that came, it itself if it is the one that is read from then on; else the
-/// one that stood there; else, past the image's end, 0.
+/// Returns the bytes of a range after a write. A byte that came stands if it is the one that is
+/// read from then on. Otherwise the old byte stands, or 0 past the image's end.
 fn came_over(alloc: Global, came: &[u8], stood: &[u8], reads: &[u8]) -> Result<Vec<u8>, AllocError>
     ensures count { IfOk result (λ bytes. length bytes.items ≡ length came.now) }
     ensures each { IfOk result (λ bytes. (i b : ℕ) → slice_get bytes.items i ≡ Some b → IsOldOrNew (slice_get stood.now i) (slice_get reads.now i) b) }
@@ -77,7 +77,7 @@ fn byte_over(came: u8, stood: Option<u8>, read: Option<u8>) -> u8
     }
 }
 
-/// The image cut to a length, but for so many bytes behind it.
+/// Returns the image cut to a length, but for so many bytes after it.
 fn cut_short(alloc: Global, len: usize, image: &[u8], behind: usize) -> Result<Vec<u8>, AllocError>
     ensures { IfOk result (λ after. Cut len image.now after.items) }
 {

@@ -18,7 +18,7 @@ search_more w v moves m s is e = subst (λ (x : WorldView). IsSearch x (moves ++
   in_range = in_range-append w.givens moves (m ∷ []) s.in_range (one_in_range w.givens m is);
 })
 
--- and back to where there were fewer
+-- and back to the world after fewer moves
 pub search_back : (g : Givens) (n : ℕ) (moves kept : List Move) (w v : WorldView) → are_in_range g moves ≡ true → w ≡ record { givens = g; world = opening_world g }
     → kept ≡ take n moves → v ≡ record { givens = w.givens; world = world_after_moves w.givens w.world kept } → IsSearch v (take n moves)
 search_back g n moves kept w v h e k f = subst (λ (x : WorldView). IsSearch x (take n moves)) (sym (f ∙ ap (λ (x : WorldView). after x kept) e ∙ ap (after (record { givens = g; world = opening_world g })) k))

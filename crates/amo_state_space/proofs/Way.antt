@@ -62,7 +62,7 @@ turns_stop : (turns : List ℕ) → stopped (map Turn turns) ≡ []
 turns_stop [] = refl
 turns_stop (p ∷ ps) = turns_stop ps
 
--- where all are gone they are a whole run
+-- if all are gone they are a whole run
 pub way_whole : (g : Givens) (w : WorldView) (turns : List ℕ) → IsOnTheWay g w turns → ((p : ℕ) → IsWorker w.givens p → (process w.world p).gone ≡ true) → IsWholeRun g (map Turn turns)
 way_whole g w turns on gone = record {
   comes_to_end = record {
@@ -80,7 +80,7 @@ pub whole_from_birth : (g : Givens) → g.jobs < g.beta → IsWholeRun g []
 whole_from_birth g few = way_whole g (record { givens = g; world = opening_world g }) [] (record { led = refl; in_range = refl; taken = refl })
     (λ p o. ap (λ (x : Process). x.gone) (numbered-table nobody (first_process g) g.workers p o.low o.high) ∙ ap wants_nothing (first_over g p few))
 
--- who is next is a worker that isn't gone; where there is none, all are gone
+-- the next worker isn't gone; without a next worker, all are gone
 pub next_here : (g : Givens) (w : World) (next : Option ℕ) (p : ℕ) → next ≡ Some p → IsNext g w next → IsWorker g p × ((process w p).gone ≡ false)
 next_here g w next p e h = subst (λ (n : Option ℕ). IsNext g w n) e h
 

@@ -1,4 +1,4 @@
--- What is said of a plan.
+-- The text on a plan.
 use Rattle.std.specs.Prelude.{◌≡◌, ℕ, ◌<◌, ◌-◌, ◌/◌, ◌^◌, Bool, true, false, List, [], ◌∷◌, ◌++◌, length, map, nat_lt, ◌==◌, if◌then◌else◌, codes, Err}
 use Rattle.std.specs.Fmt.{decimal}
 use Rattle.std.specs.Result.{IsOkAnd}
@@ -20,7 +20,7 @@ most_jobs workers = MOST_ALONE / 2 ^ (workers - 1)
 unfoldable pub unit_word : ℕ → List ℕ
 unit_word version = if version == 1 then codes "jobs" else codes "blocks"
 
--- what stands in the place of the answer where they are too many
+-- the text if they are too many
 unfoldable pub too_many : ℕ → Givens → List ℕ
 too_many version g =
     codes "refused\nwith " ++ (decimal g.workers ++ (codes " workers at most " ++ (decimal (most_jobs g.workers) ++ (codes " " ++ (unit_word version ++ (codes " are looked through, and the plan has " ++ (decimal g.jobs ++ codes "\n")))))))
@@ -36,8 +36,9 @@ found_text g worlds turns =
     codes "worlds " ++ (decimal worlds ++ (codes "\nleast " ++ (decimal (fewest g) ++ (codes "\nschedule = \"" ++ (worst_schedule g
     ++ (codes "\"\nlongest " ++ (decimal (length turns) ++ (codes "\nschedule = \"" ++ (turn_words turns ++ codes "\"\n")))))))))
 
--- The text says how many worlds there are, the fewest jobs, and a whole run. With fewer jobs than the threshold, where all workers
--- have ended from birth, there is one world. That elsewhere there are so many, and that no run is longer, it only says.
+-- The text has the number of worlds, the fewest jobs, and a whole run. With fewer jobs than the
+-- threshold all workers have ended from birth, and there is one world. Otherwise this definition
+-- doesn't say that the number of worlds is right, and that no run is longer.
 pub record SaysFound (g : Givens) (text : List ℕ) : Type 0 where
   pub worlds : ℕ
   pub turns : List ℕ

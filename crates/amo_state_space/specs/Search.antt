@@ -14,7 +14,7 @@ pub record SearchView : Type 0 where
   pub givens : Givens
   pub moves : List Move
 
--- the world is where the moves lead, which are of workers that exist
+-- the world is the one that the moves lead to, which are of workers that exist
 pub record IsSearch (w : WorldView) (moves : List Move) : Type 0 where
   pub led : w.world ≡ world_of w.givens moves
   pub in_range : are_in_range w.givens moves ≡ true
@@ -25,7 +25,7 @@ is_allowed g w stops (Turn p) = not (process w p).gone
 is_allowed g w stops (Halt p) = not (process w p).gone && nat_lt (stops + 1) g.workers
 is_allowed g w stops (Leave p) = false
 
--- it is a worker that isn't gone; or there is none
+-- it is a worker that isn't gone; or all workers are gone
 abbrev pub IsNext : Givens → World → Option ℕ → Type 0
 IsNext g w (Some p) = IsWorker g p × ((process w p).gone ≡ false)
 IsNext g w None = (p : ℕ) → IsWorker g p → (process w p).gone ≡ true

@@ -1,4 +1,4 @@
-//! What is said of a plan.
+//! The text on a plan.
 ghost use Rattle.std.specs.Prelude.{◌≡◌, ◌++◌, ◌≤◌, OnOk, IfOk, string_bytes};
 ghost use Rattle.amo_givens.specs.declared.limits.TheConstants.{MAX_WORKERS};
 ghost use Rattle.amo_render.specs.Numbers.{spaced};
@@ -14,7 +14,7 @@ use std::alloc::{AllocError, Global};
 /// half as many.
 pub const MOST_ALONE: u32 = 16;
 
-/// The most jobs with so many workers whose worlds are looked through.
+/// Returns the most jobs with so many workers whose worlds are looked through.
 fn most_jobs(workers: u32) -> u32
     requires some { 1 ≤ workers }
     requires few { workers ≤ MAX_WORKERS }
@@ -33,7 +33,7 @@ fn push_spaced(out: &mut String, numbers: &[u32]) -> Result<(), AllocError>
     Ok(())
 }
 
-/// A turn of each of these workers, in the words of a plan.
+/// Returns a turn of each of these workers, in the words of a plan.
 fn turn_words(alloc: Global, turns: &[u32]) -> Result<String, AllocError>
     ensures { IfOk result (λ s. string_bytes s ≡ turn_words turns.now) }
 {
@@ -45,7 +45,7 @@ fn turn_words(alloc: Global, turns: &[u32]) -> Result<String, AllocError>
     Ok(out)
 }
 
-/// What the givens call jobs.
+/// Returns the word for the jobs of the givens.
 #[tactic(auto, unfolding(crate::specs::Answer::unit_word))]
 fn unit_word(version: u32) -> &'static str
     ensures { result.now ≡ unit_word version }
@@ -53,7 +53,7 @@ fn unit_word(version: u32) -> &'static str
     if version == 1 { "jobs" } else { "blocks" }
 }
 
-/// Appends what stands in the place of the answer where there are too many jobs.
+/// Appends the text for too many jobs.
 #[tactic(auto, unfolding(crate::specs::Answer::too_many))]
 fn push_too_many(out: &mut String, version: u32, givens: Givens) -> Result<(), AllocError>
     ensures { OnOk result (string_bytes out.new ≡ string_bytes out.old ++ too_many version givens) }
@@ -68,7 +68,7 @@ fn push_too_many(out: &mut String, version: u32, givens: Givens) -> Result<(), A
     )
 }
 
-/// Appends what was found.
+/// Appends the results of the search.
 #[tactic(auto, unfolding(crate::specs::Answer::found_text))]
 fn push_found(
     alloc: Global,
@@ -90,12 +90,21 @@ fn push_found(
     )
 }
 
-/// What is said of the plans of a version that have these givens. Where the jobs, or in version 2
-/// the blocks, are at most 16 with one worker, 8 with two, 4 with three, and so on: how many worlds
-/// turns in any order lead to, and stops of all workers but one at most; how few jobs are performed
-/// at least, once all are gone, with a schedule after which no more are; and how many turns a run
-/// may have, with the schedule of such a run. Else a line that says `refused`, and one that says
-/// why. The only error is out of memory.
+/// Returns the text on the plans of a version with these givens. The jobs, or in version 2 the
+/// blocks, may be at most 16 with one worker, 8 with two, 4 with three, and so on. If they are, the
+/// text has three parts.
+///
+/// - The number of worlds that turns in any order lead to, with stops of at most all workers but
+///   one.
+/// - The fewest jobs that are performed once all workers are gone, with a schedule after which no
+///   more are.
+/// - The most turns of a run, with the schedule of such a run.
+///
+/// Otherwise it has a line that says `refused`, and one with the reason.
+///
+/// # Errors
+///
+/// `AllocError` if there was no memory.
 pub fn all_text(alloc: Global, version: u32, givens: Givens) -> Result<String, AllocError>
     ensures { IfOk result (λ s. IsAllOf version givens (string_bytes s)) }
 {
@@ -109,7 +118,7 @@ pub fn all_text(alloc: Global, version: u32, givens: Givens) -> Result<String, A
     Ok(out)
 }
 
-/// What is said of the plan that the bytes are.
+/// The text on the plan that the bytes are.
 #[derive(Clone, Copy, Debug, PartialEq, Eq)]
 pub struct AllWorlds;
 
@@ -120,8 +129,11 @@ impl BytesText for AllWorlds {
 
     ghost is_refused = { λ _. AreNoPlan };
 
-    /// The text, in which nothing of the plan but its version and its givens has a part. `Plan(f)`
-    /// comes just where the bytes are no plan, for the fault f; the only other one is out of
+    /// Returns the text, which depends only on the version and the givens of the plan.
+    ///
+    /// # Errors
+    ///
+    /// `Plan(f)` exactly if the bytes are not a plan, for the fault f. `NoMemory` if there was no
     /// memory.
     fn make(&self, alloc: Global, bytes: &[u8]) -> Result<String, ReplayFault> {
         let plan = plan_of_bytes(alloc, bytes)?;

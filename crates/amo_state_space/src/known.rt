@@ -1,4 +1,4 @@
-//! What a world is known by.
+//! The key of a world.
 
 use amo_kk::{Local, Phase};
 use amo_world::World;
@@ -42,7 +42,7 @@ fn push_fronts(key: &mut Vec<u32>, local: &Local) -> Result<(), AllocError> {
     Ok(())
 }
 
-/// Appends the jobs that a worker has performed, in their order, and a zero, which is no job.
+/// Appends the jobs that a worker has performed, in their order, and a zero, which ends them.
 fn push_dones(key: &mut Vec<u32>, local: &Local) -> Result<(), AllocError> {
     for job in local.dones() {
         key.push(*job)?;
@@ -51,10 +51,10 @@ fn push_dones(key: &mut Vec<u32>, local: &Local) -> Result<(), AllocError> {
     Ok(())
 }
 
-/// Numbers that two worlds of the same givens have in common just where they are the same but for
-/// their histories and their counts of steps: of each worker whether it is gone, its announcement,
-/// its phase, its sets, how far it has read the row of each other, and the jobs that it has
-/// performed.
+/// Returns the key of a world. Two worlds of the same givens have the same key exactly if they
+/// differ at most in their histories and their counts of steps. The key has for each worker whether
+/// it is gone, its announcement, its phase and its sets. It also has how far it has read the row of
+/// each other, and the jobs that it has performed.
 pub(crate) fn key_of(alloc: Global, world: &World) -> Result<Vec<u32>, AllocError> {
     let mut key = Vec::new(alloc);
     for before in 0..world.givens().workers {

@@ -7,8 +7,8 @@ ghost use Rattle.amo_plan.specs.declared.limits.TheConstants.{MOST_MOVES};
 ghost use Rattle.amo_state_space.specs.Answer.{turn_words};
 ghost use Rattle.amo_state_space.specs.Runs.{IsWholeRun};
 
-/// The schedule of a run that is shown is read as that run, in both versions, where it has no more
-/// turns than a plan may have moves.
+/// States that the schedule of a run that is shown is read as that run, in both versions, if it has
+/// no more turns than a plan may have moves.
 pub fn shown_runs_are_read()
     ensures { (version : ℕ) (g : Givens) (turns : List ℕ) → IsWholeRun g (map Turn turns) → length turns ≤ MOST_MOVES
         → read_schedule version g.workers (turn_words turns) ≡ Ok (map Turn turns) }

@@ -1,6 +1,9 @@
-//! All worlds that turns lead to, and stops while not all workers but one are stopped: how many
-//! they are, for few jobs and workers, how few jobs are performed in the end, and how long a run
-//! may be. The module `laws` has the theorems over the runs that are shown.
+//! All worlds that turns lead to, and stops of all workers but one: for few jobs and workers, by an
+//! exhaustive search.
+//!
+//! Start at [`all_text`]. It returns how many worlds there are, how few jobs are performed in the
+//! end, and how long a run may be. The module [`laws`] has the theorems over the runs that are
+//! shown.
 #![tactic(auto)]
 
 mod answer;

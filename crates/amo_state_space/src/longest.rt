@@ -1,4 +1,4 @@
-//! The longest run, along what the search came to know.
+//! The longest run, along the worlds that the search has found.
 ghost use Rattle.std.specs.Prelude.{◌≡◌, ◌<◌, map, IfOk};
 ghost use Rattle.amo_givens.specs.declared.moves.Move.TheVariants.{Turn};
 ghost use Rattle.amo_state_space.specs.Runs.{IsWholeRun};
@@ -16,7 +16,7 @@ pub(crate) struct Found {
     pub(crate) turns: Vec<u32>,
 }
 
-/// The first worker that isn't gone.
+/// Returns the first worker that isn't gone.
 fn first_here(world: &World) -> Option<u32>
     ensures { IsNext world.now.givens world.now.world result }
 {
@@ -28,8 +28,8 @@ fn first_here(world: &World) -> Option<u32>
     None
 }
 
-/// Whose turn comes next on a longest way from a world that the search looked at; nobody's where
-/// all are gone.
+/// Returns the worker of the next turn on a longest way from a world that the search looked at, or
+/// `None` if all are gone.
 fn next_turn(alloc: Global, search: &Search, world: &World) -> Result<Option<u32>, AllocError>
     ensures { IfOk result (λ next. IsNext world.now.givens world.now.world next) }
 {
@@ -39,7 +39,7 @@ fn next_turn(alloc: Global, search: &Search, world: &World) -> Result<Option<u32
     }
 }
 
-/// Whose turns a longest run has.
+/// Returns the workers of the turns of a longest run.
 fn longest_turns(alloc: Global, search: &Search, givens: Givens) -> Result<Vec<u32>, AllocError>
     ensures { IfOk result (λ v. IsWholeRun givens (map Turn v.items)) }
 {
@@ -52,9 +52,9 @@ fn longest_turns(alloc: Global, search: &Search, givens: Givens) -> Result<Vec<u
     Ok(turns)
 }
 
-/// What is found from the opening world of these givens on. Where there are fewer jobs than the
-/// threshold, all workers have ended from birth, so there is no other world. The only error is out
-/// of memory.
+/// Returns the results of a search from the opening world of these givens. With fewer jobs than the
+/// threshold, all workers have ended from birth, so there is no other world. Fails if there was no
+/// memory.
 pub(crate) fn find(alloc: Global, givens: Givens) -> Result<Found, AllocError>
     ensures whole { IfOk result (λ found. IsWholeRun givens (map Turn found.turns.items)) }
     ensures one { IfOk result (λ found. givens.jobs < givens.beta → found.worlds ≡ 1) }

@@ -18,14 +18,14 @@ use std::marker::Model;
 pub(crate) struct Longest {
     /// How many turns it has.
     turns: u32,
-    /// Whose turn is the first of them; nobody's, where all are gone.
+    /// The worker of the first of them, or `None` if all are gone.
     first: Option<u32>,
 }
 
 impl Longest {
-    /// This one, or the one that begins with this turn and goes on so, whichever is longer. A stop
-    /// is no turn, and no way is longer for one: who is stopped could as well wait until all others
-    /// are gone.
+    /// Returns this way, or the one that begins with this turn and goes on so, whichever is longer.
+    /// A stop is no turn, and makes no way longer: a worker that is stopped could as well wait
+    /// until all others are gone.
     fn or_after(self, one: Move, after: Longest) -> Longest {
         match one {
             Move::Turn(p) if self.turns <= after.turns => Longest {
@@ -37,7 +37,7 @@ impl Longest {
     }
 }
 
-/// A world, with the moves that led to it, and what is known of those that were looked at.
+/// A world, with the moves that led to it, and the facts on the worlds that were looked at.
 #[derive(Drop)]
 pub(crate) struct Search {
     world: World,
@@ -56,7 +56,8 @@ impl Model for Search {
 }
 
 impl Search {
-    /// The opening world of these givens, and nothing known. The only error is out of memory.
+    /// Returns the opening world of these givens, and nothing known. The only error is out of
+    /// memory.
     pub(crate) fn new(alloc: Global, givens: Givens) -> Result<Search, AllocError>
         ensures { IfOk result (λ s. s ≡ record { givens = givens; moves = [] }) }
     {
@@ -67,7 +68,7 @@ impl Search {
         })
     }
 
-    /// The moves in a row: a turn of each worker, and a stop of each.
+    /// Returns the moves in a row: a turn of each worker, and a stop of each.
     fn move_at(&self, before: u32) -> Move
         requires { before < 2 * self.now.givens.workers }
         ensures { IsWorker self.now.givens (worker_of result) }
@@ -104,7 +105,7 @@ impl Search {
         Ok(())
     }
 
-    /// Goes back to where so many moves were made.
+    /// Goes back to the world after so many moves.
     fn back(&mut self, alloc: Global, count: usize) -> Result<(), AllocError>
         requires { count ≤ length self.old.moves }
         ensures { OnOk result (self.new ≡ record { givens = self.old.givens; moves = take count self.old.moves }) }
@@ -117,12 +118,12 @@ impl Search {
         Ok(())
     }
 
-    /// How many worlds are known.
+    /// Returns how many worlds are known.
     pub(crate) fn count(&self) -> usize {
         self.known.len()
     }
 
-    /// Whose turn is the first on the longest way on from a world that is known.
+    /// Returns the worker of the first turn on the longest way on from a known world.
     pub(crate) fn first_turn(
         &self,
         alloc: Global,
@@ -132,8 +133,8 @@ impl Search {
         Ok(self.known.get(&key).and_then(|longest| longest.first))
     }
 
-    /// The longest way on from this world, over turns, once each world that turns lead to, and
-    /// stops while not all others are stopped, is known. So many were stopped so far.
+    /// Returns the longest way on from this world, over turns, once each world that turns lead to,
+    /// and stops while not all others are stopped, is known. So many were stopped so far.
     pub(crate) fn look(&mut self, alloc: Global, stops: u32) -> Result<Longest, AllocError>
         requires stops { length (stopped self.old.moves) ≡ stops }
         requires few { stops ≤ 15 }
@@ -162,7 +163,7 @@ impl Search {
     }
 }
 
-/// The stops so far and the one that this move may be.
+/// Returns the stops so far and the one that this move may be.
 fn stops_after(one: Move, stops: u32) -> u32
     requires { stops ≤ 15 }
     ensures { result ≡ (if is_halt one then stops + 1 else stops) }

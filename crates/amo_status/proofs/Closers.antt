@@ -1,4 +1,5 @@
--- What the intents that close a line have in common: none of them stands open, and there is one just where the line is closed.
+-- The intents that close a line: none of them stands open, and one exists exactly if the line is
+-- closed.
 use Rattle.std.proofs.Common.{◌≡◌, ℕ, ◌+◌, Bool, true, false, cond, ◌&&◌, ◌||◌, List, [], ◌∷◌, ◌++◌, Option, Some, None, refl, ap, ◌∙◌}
 use Rattle.std.specs.Prelude.{not, ◌==◌}
 use Rattle.std.specs.List.{AllByRecursion, filter}
@@ -93,7 +94,7 @@ module _ (findings : List Finding) (finals : List AttemptId) (line : ℕ) where
   all_closed worker (es ∷ journals) =
       all_append IsClosed (closing_in findings finals worker 1 es line) (closing findings finals (worker + 1) journals line) (closed_in worker 1 es) (all_closed (worker + 1) journals)
 
--- there is one just where the line is closed
+-- one exists exactly if the line is closed
 
 has_append : (xs ys : List LineStatus) → has_some (xs ++ ys) ≡ (has_some xs || has_some ys)
 has_append [] ys = refl
@@ -125,7 +126,7 @@ open_deciding : (xs : List LineStatus) → AllClosed xs → is Open (deciding xs
 open_deciding [] closed = refl
 open_deciding (x ∷ xs) closed = all_deciding IsClosed (x ∷ xs) closed refl
 
--- a line stands open just where no intent closes it
+-- a line stands open exactly if no intent closes it
 pub open_just : (findings : List Finding) (finals : List AttemptId) (line worker : ℕ) (journals : List (List Attempt)) → is Open (deciding (closing findings finals worker journals line)).state ≡ not (closed_by findings worker journals line)
 open_just findings finals line worker journals =
     open_deciding (closing findings finals worker journals line) (all_closed findings finals line worker journals)

@@ -1,4 +1,4 @@
--- A text as JSON: a string, or null where the bytes are no text.
+-- A text as JSON: a string, or null if the bytes are not UTF-8.
 use Rattle.std.proofs.Common.{◌≡◌, ℕ, cond, List, codes, sym, ap, ◌∙◌}
 use Rattle.std.specs.Str.{IsUtf8, is_utf8}
 use Rattle.std.proofs.lemmas.Bool.{false_from_ne_true}

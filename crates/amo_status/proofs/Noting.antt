@@ -1,4 +1,4 @@
--- What a step of a loop over journals leaves to decide, and that in the end the one stands that decides.
+-- The intent that decides after a step of a loop over journals, and at the end of the loop.
 use Rattle.std.proofs.Common.{◌≡◌, ◌≢◌, ⊎_elim, ℕ, ◌+◌, ◌-◌, ◌<◌, ◌≤◌, Bool, true, false, cond, ◌&&◌, ◌||◌, List, [], ◌∷◌, ◌++◌, Vec, Global, length, get_or, drop, map, refl, sym, ap, ◌∙◌, arith}
 use Rattle.std.specs.Prelude.{not, ◌==◌}
 use Rattle.std.specs.List.{filter}

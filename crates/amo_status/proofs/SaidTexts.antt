@@ -1,4 +1,5 @@
--- What is printed of an answer is read as it, and what is read was printed so.
+-- The text that is printed of an answer is read as that answer, and a text that is read was printed
+-- so.
 use Rattle.std.proofs.Common.{◌≡◌, ◌≢◌, inl, inr, ℕ, ◌+◌, ◌-◌, ◌^◌, ◌<◌, Bool, true, false, cond, List, [], ◌∷◌, ◌++◌, length, take, drop, map, Option, Some, None, refl, sym, ap, subst, ◌∙◌, arith, append_assoc, length-append}
 use Rattle.std.specs.Prelude.{not, ◌==◌, nat_lt, codes, option_and_then, position, IfSome, IfNone}
 use Rattle.std.specs.Fmt.{decimal}
@@ -23,7 +24,7 @@ use Rattle.amo_status.specs.States.{is}
 use Rattle.amo_status.specs.Rows.{kind_head, kind_row}
 use Rattle.amo_status.specs.Said.{SaidView, FitsSaid, intent_in, intent_text, lines_from, lines_in, place_in, said_in, said_text, split_at, verdict_behind, words_in}
 
--- what stands before a byte and behind it
+-- the texts before a byte and after it
 
 place : (c : ℕ) (w r : List ℕ) → Lacks c w → position_or_len (λ b. b == c) (w ++ c ∷ r) ≡ length w
 place c [] r lacks = ap (λ t. cond (not t) (1 + position_or_len (λ b. b == c) r) 0) (equal c c refl)
@@ -50,7 +51,7 @@ split_printed c text p h =
     (split_at_first (λ b. b == c) text 0 at
     ∙ ap (λ n. before_first (λ b. b == c) text ++ n ∷ after_first (λ b. b == c) text) (eqb-true _ c (passes_at_first (λ b. b == c) text 0 at)))
 
--- where the byte was looked for
+-- the byte was looked for and found
 
 pub found_at : (c : ℕ) (text : List ℕ) (at : ℕ) → Some at ≡ position (λ b. b == c) text → Some (take at text, take (length text - (at + 1)) (drop (at + 1) text)) ≡ split_at c text
 found_at c text at h =
@@ -272,7 +273,7 @@ pub texts_lack : (answers : List SaidView) → AllByRecursion FitsSaid answers �
 texts_lack [] fit lack = tt
 texts_lack (s ∷ answers) fit lack = (text_lacks s fit.0 lack.0, texts_lack answers fit.1 lack.1)
 
--- a row with a verdict behind it
+-- a row that a verdict follows
 
 regroup : (a b c t v : List ℕ) → ((a ++ 46 ∷ (b ++ 9 ∷ (c ++ 9 ∷ []))) ++ t) ++ 9 ∷ v ≡ (a ++ 46 ∷ b) ++ 9 ∷ (c ++ 9 ∷ (t ++ 9 ∷ v))
 regroup a b c t v = simp append_assoc

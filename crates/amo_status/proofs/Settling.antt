@@ -1,4 +1,4 @@
--- What a person's answer that may be taken makes of its line.
+-- The status of a line after a person's answer that may be taken.
 use Rattle.std.proofs.Common.{◌≡◌, ℕ, ◌+◌, ◌-◌, ◌≤◌, Bool, true, false, cond, ◌&&◌, ◌||◌, List, [], ◌∷◌, ◌++◌, map, Option, Some, None, refl, sym, ap, ◌∙◌, arith}
 use Rattle.std.specs.Prelude.{not, ◌==◌, nat_le, slice_get, slice_index_or}
 use Rattle.std.specs.List.{AllByRecursion, filter}
@@ -113,7 +113,7 @@ module _ (findings : List Finding) (finals : List AttemptId) (worker serial time
   pub all_settled : (w : ℕ) (journals : List (List Attempt)) → closing (done_too findings worker serial time) finals w journals line ≡ map settled (closing findings finals w journals line)
   all_settled = all_after findings (done_too findings worker serial time) finals line (map settled) refl (map-append settled) if_settled
 
-  -- where none runs, none runs then
+  -- if none runs, none runs then
   none_runs : (xs : List LineStatus) → filter runs xs ≡ [] → filter runs (map settled xs) ≡ []
   none_runs [] h = refl
   none_runs (x ∷ xs) h = by_test (runs x) refl h (none_runs xs)
@@ -127,7 +127,7 @@ module _ (findings : List Finding) (finals : List AttemptId) (worker serial time
       by_test false is_so none later =
           ap (λ b. cond b (settled x ∷ filter runs (map settled xs)) (filter runs (map settled xs))) (stays (of_it findings worker serial time x.worker x.serial) is_so) ∙ later none
 
-  -- the first of them all decides where none runs
+  -- the first of them all decides if none runs
   idle : (xs : List LineStatus) → runs (deciding xs) ≡ false → filter runs xs ≡ []
   idle xs h = by_list xs (filter runs xs) (all_run xs) h
     where

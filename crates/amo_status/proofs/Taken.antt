@@ -1,4 +1,4 @@
--- An answer is taken just where it may be.
+-- An answer is taken exactly if it may be.
 use Rattle.std.proofs.Common.{◌≡◌, ◌↔◌, ℕ, Bool, true, false, cond, ◌&&◌, ◌||◌, List, [], ◌∷◌, Option, Some, None, Result, Ok, Err, refl, sym, ap, ◌∙◌}
 use Rattle.std.specs.Prelude.{not, ◌==◌, is_ok, IsOk}
 use Rattle.std.specs.Result.{result_err}
@@ -21,7 +21,7 @@ use Rattle.amo_status.specs.States.{is_among, is_found_done, state_by, state_of}
 use Rattle.amo_status.specs.Standings.{attempt_of}
 use Rattle.amo_status.specs.Answers.{is_said, contrary, refusal_at, is_closed_by, refusal_of_option, refusal_of, is_asked, MayBeTaken}
 
--- a person answered just where one found it done or not done
+-- a person answered exactly if one found it done or not done
 
 by_parts : (n o a b : Bool) → (o || (a || b)) ≡ (((not n && o) || a) || ((n && o) || b))
 by_parts true true true true = refl

@@ -50,7 +50,7 @@ refusal_of_attempt findings journals finals worker serial line verdict e =
     else (if is_said findings worker serial verdict then Some AnsweredSo
     else refusal_at (state_of findings finals worker serial e.answer) (is_closed_by findings journals finals worker serial line)))
 
--- the same where there may be no such intent
+-- the refusal of an answer if there may be no such intent
 abbrev pub refusal_of_option : List Finding → List (List Attempt) → List AttemptId → ℕ → ℕ → ℕ → Resolution → Option Attempt → Option Refusal
 refusal_of_option findings journals finals worker serial line verdict None = Some NoIntent
 refusal_of_option findings journals finals worker serial line verdict (Some e) = refusal_of_attempt findings journals finals worker serial line verdict e

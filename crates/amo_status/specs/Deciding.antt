@@ -4,7 +4,7 @@ use Rattle.amo_status.specs.declared.standing.LineStatus.{LineStatus}
 use Rattle.amo_status.specs.declared.state.State.TheVariants.{Open, Running}
 use Rattle.amo_status.specs.States.{is}
 
--- which of two decides: the later one where the line was open before it, or where it alone runs
+-- the one of two that decides: the later one if the line was open before it, or if it alone runs
 abbrev pub decided_of : LineStatus → LineStatus → LineStatus
 decided_of old new = if is Open old.state || (is Running new.state && not (is Running old.state)) then new else old
 

@@ -1,4 +1,4 @@
--- The same as JSON, members in this order and with no space.
+-- The status of a run and the doubts as JSON: members in this order, without spaces.
 use Rattle.std.specs.Prelude.{ℕ, ◌+◌, Bool, true, false, ◌||◌, List, [], ◌∷◌, ◌++◌, codes, slice_index_or, Option, Some, None, if◌then◌else◌}
 use Rattle.std.specs.Fmt.{decimal}
 use Rattle.std.specs.Str.{is_utf8}

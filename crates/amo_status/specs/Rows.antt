@@ -83,7 +83,7 @@ abbrev pub rows_from : (ℕ → LineStatus → List ℕ → List ℕ) → ℕ �
 rows_from row k [] texts = []
 rows_from row k (s ∷ ss) texts = row (k + 1) s (slice_index_or texts k []) ++ rows_from row (k + 1) ss texts
 
--- the numbers, each behind a blank
+-- the numbers, each after a blank
 abbrev pub spaced : List ℕ → List ℕ
 spaced [] = []
 spaced (p ∷ ps) = codes " " ++ (decimal p ++ spaced ps)

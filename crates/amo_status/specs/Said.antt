@@ -39,7 +39,7 @@ said_text s = intent_text s.worker s.serial ++ (tab ++ (decimal s.line ++ (tab +
 abbrev pub FitsSaid : SaidView → Type 0
 FitsSaid s = (s.worker < 2 ^ 64) × (s.serial < 2 ^ 64) × (s.line < 2 ^ 64)
 
--- what stands before the first such byte, and what behind it
+-- the text before the first such byte, and the text after it
 abbrev pub split_at : ℕ → List ℕ → Option (List ℕ × List ℕ)
 split_at byte text =
     if nat_lt (position_or_len (λ b. b == byte) text) (length text) then Some (before_first (λ b. b == byte) text, after_first (λ b. b == byte) text) else None

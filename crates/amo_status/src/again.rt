@@ -1,4 +1,4 @@
-//! The intents that did nothing, to be tried again.
+//! Intents that did nothing, to be tried again.
 ghost use Rattle.std.specs.Prelude.{◌≡◌, ◌++◌, map, IfOk, OnOk};
 ghost use Rattle.amo_status.specs.Answers.{is_idle, untouched_in, untouched_of};
 
@@ -6,8 +6,12 @@ use crate::state::AttemptId;
 use amo_run_log::{Attempt, Finding, Outcome, has_finding};
 use std::alloc::{AllocError, Global};
 
-/// The intents that are answered untouched and that no person answered, in the order of the
-/// journals: who wants their lines tried again answers each of them not done.
+/// Returns the intents with the outcome `untouched` that no person answered, in the order of the
+/// journals. To have their lines tried again, the operator answers each of them `not-done`.
+///
+/// # Errors
+///
+/// `AllocError` if there was no memory.
 pub fn untouched(
     alloc: Global,
     findings: &[Finding],
@@ -22,7 +26,7 @@ pub fn untouched(
     Ok(found)
 }
 
-/// Adds those of this journal.
+/// Adds the intents of this journal that did nothing.
 fn push_untouched(
     found: &mut Vec<AttemptId>,
     findings: &[Finding],

@@ -1,4 +1,4 @@
-//! Which answers of persons are taken.
+//! The answers of persons that are taken.
 ghost use Rattle.std.specs.Prelude.{◌≡◌, ◌↔◌, map, IsOk};
 ghost use Rattle.std.specs.Result.{result_err};
 ghost use Rattle.amo_status.specs.Ages.{age_of};
@@ -148,7 +148,7 @@ fn checked(
     }
 }
 
-/// The intent of this worker and serial number, if there is one.
+/// Returns the intent of this worker and serial number, if there is one.
 fn attempt_of(journals: &[Vec<Attempt>], worker: u64, serial: u64) -> Option<Attempt>
     ensures { result ≡ attempt_of (map (λ journal. journal.items) journals.now) worker serial }
 {
@@ -162,7 +162,7 @@ fn attempt_of(journals: &[Vec<Attempt>], worker: u64, serial: u64) -> Option<Att
     Some(journal[(serial - 1) as usize])
 }
 
-/// Returns true if a person said so of the intent.
+/// Returns true if a person gave this verdict on the intent.
 fn is_said(findings: &[Finding], worker: u64, serial: u64, verdict: Resolution) -> bool
     ensures { result ≡ is_said findings.now worker serial verdict }
 {
@@ -181,7 +181,7 @@ fn contrary(verdict: Resolution) -> Resolution
     }
 }
 
-/// Returns true if it is by this intent that the line is closed now.
+/// Returns true if this intent closes the line now.
 fn is_closed_by(log: &RunLog<'_>, intent: AttemptId, line: u64) -> bool
     ensures { result ≡ is_closed_by log.now.findings.now (map (λ journal. journal.items) log.now.journals.now) log.now.finals.now intent.worker intent.serial line }
 {

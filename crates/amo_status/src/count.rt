@@ -1,6 +1,6 @@
-//! How many lines stand how.
+//! The counts of lines by status.
 
-/// How many lines there are, and how many stand how.
+/// The number of lines, and the number of lines of each status.
 #[derive(Clone, Copy, Debug, PartialEq, Eq)]
 pub struct Counts {
     pub lines: u64,

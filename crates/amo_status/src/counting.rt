@@ -1,4 +1,4 @@
-//! To count how many lines stand how.
+//! Counting of lines by status.
 ghost use Rattle.std.specs.Prelude.{◌≡◌, ◌+◌, length};
 ghost use Rattle.amo_status.specs.Counts.{count_of, counts_of};
 
@@ -6,10 +6,10 @@ use crate::count::Counts;
 use crate::standing::LineStatus;
 use crate::state::{State, is};
 
-/// How many lines there are that stand so, and how many stand how.
+/// Returns the number of these lines, and the number of lines of each status.
 pub fn counts(standings: &[LineStatus]) -> Counts
     ensures exact { result ≡ counts_of standings.now }
-    // Each is counted once.
+    // Each line is counted once.
     ensures all { result.done + result.failed + result.doubt + result.untouched + result.running + result.open ≡ length standings.now }
 {
     Counts {
@@ -23,7 +23,7 @@ pub fn counts(standings: &[LineStatus]) -> Counts
     }
 }
 
-/// How many stand so.
+/// Returns the number of lines of this status.
 fn count_of(kind: State, standings: &[LineStatus]) -> u64
     ensures { result ≡ count_of kind standings.now }
 {

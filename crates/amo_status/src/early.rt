@@ -42,7 +42,7 @@ fn is_untimed(why: Refusal) -> bool
     }
 }
 
-/// One message for each answer, on a line of its own.
+/// Prints one message for each answer, on a line of its own.
 impl Display for EarlyAnswers {
     fn fmt<W: fmt::Write>(&self, f: &mut Formatter<W>) -> fmt::Result {
         let mut before = "";

@@ -1,14 +1,14 @@
-//! How many lines stand how, as it is written at the head of a status.
+//! The counts at the head of a status.
 ghost use Rattle.std.specs.Prelude.{◌≡◌, ◌++◌, string_bytes, IfOk, OnOk};
 ghost use Rattle.amo_status.specs.Headings.{counts_back, counts_front, counts_text};
 
 use crate::count::Counts;
 use std::alloc::{AllocError, Global};
 
-/// How the counts are written.
+/// The form in which the counts are written.
 #[derive(Clone, Copy, Debug, PartialEq, Eq)]
 pub(crate) enum Style {
-    /// Each behind its word.
+    /// Each after its word.
     Words,
     /// As members of a JSON object.
     Members,
@@ -29,7 +29,7 @@ pub(crate) fn push_counts(
     text.extend_from_slice(back.as_bytes())
 }
 
-/// How many lines there are, and how many are done, failed and in doubt.
+/// Returns how many lines there are, and how many are done, failed and in doubt.
 fn counts_front(alloc: Global, style: Style, counts: &Counts) -> Result<String, AllocError>
     ensures { IfOk result (λ text. string_bytes text ≡ counts_front style counts.now) }
 {
@@ -47,7 +47,7 @@ fn counts_front(alloc: Global, style: Style, counts: &Counts) -> Result<String, 
     }
 }
 
-/// How many are running, untouched and open.
+/// Returns how many lines are running, untouched and open.
 fn counts_back(alloc: Global, style: Style, counts: &Counts) -> Result<String, AllocError>
     ensures { IfOk result (λ text. string_bytes text ≡ counts_back style counts.now) }
 {

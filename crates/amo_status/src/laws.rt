@@ -1,4 +1,4 @@
-//! What follows for lines and answers, each as the contract of a function that does nothing.
+//! The theorems on lines and answers. Nothing here runs: each function's contract is a theorem.
 ghost use Rattle.std.specs.List.{AllByRecursion};
 ghost use Rattle.std.specs.Prelude.{◌≡◌, ◌≢◌, ◌+◌, ◌++◌, ℕ, true, false, List, Option, Some, map, slice_get};
 ghost use Rattle.amo_run_log.specs.declared.finding.Finding.{Finding as FindingView};
@@ -21,8 +21,8 @@ ghost use Rattle.amo_status.specs.Said.{SaidView, FitsSaid, lines_in, said_in, s
 ghost use Rattle.amo_status.specs.Standings.{open_standing, standing_of, IsByIntent};
 ghost use Rattle.amo_status.specs.States.{is, state_of};
 
-/// A closed line stands by an intent of it that closes it, and by one that runs if there is one. An
-/// open line stands by none.
+/// States by which intent a line has its status. A closed line has it by an intent of it that
+/// closes it, and by a running one if there is one. An open line has it by no intent.
 pub fn by_which_intent_a_line_stands()
     ensures closed { (findings : List FindingView) (journals : List (List AttemptView)) (finals : List IntentView) (line : ℕ)
         → is_open findings journals line ≡ false → IsByIntent findings journals finals line (standing_of findings journals finals line) }
@@ -33,9 +33,9 @@ pub fn by_which_intent_a_line_stands()
         → is Running (standing_of findings journals finals line).state ≡ true }
 {}
 
-/// Once an answer that may be taken is noted, its line stands done by the same intent, or is closed
-/// by that intent no more. The same answer again is refused as one that was given so, and the
-/// contrary one as one that was given otherwise.
+/// States that an answer settles its line. Once an answer that may be taken is noted, the line is
+/// done by that intent, or that intent no longer closes it. The same answer again is refused as one
+/// that was given, and the contrary one as one that was given otherwise.
 pub fn an_answer_settles()
     ensures done { (findings : List FindingView) (journals : List (List AttemptView)) (finals : List IntentView) (worker serial line time : ℕ)
         → MayBeTaken findings journals finals worker serial line
@@ -51,16 +51,16 @@ pub fn an_answer_settles()
         → refusal_now quiet (with_answer findings verdict worker serial time) journals finals worker serial line (contrary verdict) ≡ Some AnsweredOtherwise }
 {}
 
-/// Answers that are written a line each are read back as themselves, and what is read was written
-/// so.
+/// States that answers that are written a line each are read back as themselves, and that a text
+/// that is read was written so.
 pub fn answers_are_read_back()
     ensures back { (answers : List SaidView) → AllByRecursion FitsSaid answers → AllByRecursion (λ s. AllByRecursion (λ b. b ≢ 10) s.text) answers
         → read_all said_in (lines_in (ended (map said_text answers))) ≡ Some answers }
     ensures written { (file : List ℕ) (answers : List SaidView) → read_all said_in (lines_in file) ≡ Some answers → map said_text answers ≡ lines_in file }
 {}
 
-/// The row of a closed line among those of its kind, with a tab and a verdict behind it, is an
-/// answer to its intent.
+/// States that the row of a closed line among those of its kind, with a tab and a verdict after it,
+/// is an answer to its intent.
 pub fn rows_are_answers()
     ensures { (kind : StateView) (line : ℕ) (s : StandingView) (text : List ℕ) (v : VerdictView) → is Open s.state ≡ false → is kind s.state ≡ true
         → (row : List ℕ) × (kind_row kind line s text ≡ row ++ line_end)

@@ -1,6 +1,14 @@
-//! Where each line of a run stands, by what the journals, the answers of persons and the locks say:
-//! whether it is open, done, failed, in doubt, untouched or running, and by which intent; which
-//! answers of persons are taken; and all that as texts.
+//! The status of each line of a run, by the journals, the answers of persons and the locks.
+//!
+//! Start at [`standings`], which returns for each line its status and the intent that decides on
+//! it. The other calls state which answers of persons are taken, and write all that as texts. The
+//! theorems stand in the module [`laws`].
+//!
+//! | here | in the glossary |
+//! |---|---|
+//! | standing, how a line stands | status of a line |
+//! | answer of a person, finding | resolution |
+//! | answer of an intent | outcome |
 #![tactic(auto)]
 
 mod again;

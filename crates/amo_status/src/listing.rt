@@ -1,4 +1,4 @@
-//! The status of a run, the lines that stand so, and the doubts, as texts.
+//! The status of a run, the lines of one status, and the doubts, as texts.
 ghost use Rattle.std.specs.Prelude.{◌≡◌, ◌≤◌, ◌++◌, codes, length, map, IfOk, OnOk};
 ghost use Rattle.amo_status.specs.Rows.{doubt_row, kind_row, line_end, rows_from, spaced, status_text};
 
@@ -9,9 +9,13 @@ use crate::standing::LineStatus;
 use crate::state::State;
 use std::alloc::{AllocError, Global};
 
-/// The status of a run: the counts, a line of the workers that are alive, and a row for each line
-/// that is in doubt, untouched or running, `STATE P.S LINE TEXT`. The text of the line k + 1 stands
-/// at k, without an end.
+/// Returns the status of a run: the counts, a line of the workers that are alive, and a row for
+/// each line that is in doubt, untouched or running. A row is `STATE P.S LINE TEXT`. The text of
+/// the line k + 1 stands at k, without an end.
+///
+/// # Errors
+///
+/// `AllocError` if there was no memory.
 pub fn status_text(
     alloc: Global,
     counts: &Counts,
@@ -30,9 +34,13 @@ pub fn status_text(
     Ok(text)
 }
 
-/// A row for each line that stands so: the intent as `P.S`, or `-` where the line is open, the
-/// line's number, and its text, a tab between each two. Such a row with a tab and `done` or
-/// `not-done` behind it is what `read_answers` reads.
+/// Returns a row for each line of this status: the intent as `P.S`, the line's number, and its
+/// text, a tab between each two. An open line has `-` for the intent. Such a row with a tab and
+/// `done` or `not-done` after it can be read by `read_answers`.
+///
+/// # Errors
+///
+/// `AllocError` if there was no memory.
 pub fn lines_text(
     alloc: Global,
     kind: State,
@@ -47,9 +55,13 @@ pub fn lines_text(
     Ok(text)
 }
 
-/// A row for each line that is in doubt, `doubt P.S LINE TEXT TIME AGE`. TIME is when it was begun,
-/// and AGE how many seconds ago it ended by a clock that shows `now`. AGE is `unknown` if no record
-/// says when it ended, and `ahead` if that is later than `now`.
+/// Returns a row for each line that is in doubt, `doubt P.S LINE TEXT TIME AGE`. TIME is when it
+/// was begun, and AGE how many seconds ago it ended by a clock that shows `now`. AGE is `unknown`
+/// if no record says when it ended, and `ahead` if that is later than `now`.
+///
+/// # Errors
+///
+/// `AllocError` if there was no memory.
 pub fn doubts_text(
     alloc: Global,
     now: u64,
@@ -74,7 +86,7 @@ fn push_alive(text: &mut Vec<u8>, alloc: Global, alive: &[u64]) -> Result<(), Al
     Ok(())
 }
 
-/// Adds the numbers, each behind a blank.
+/// Adds the numbers, each after a blank.
 fn push_spaced(text: &mut Vec<u8>, alloc: Global, numbers: &[u64]) -> Result<(), AllocError>
     ensures { OnOk result (text.new.items ≡ text.old.items ++ spaced numbers.now) }
 {

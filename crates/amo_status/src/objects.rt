@@ -13,9 +13,13 @@ use serde_json::Value;
 use std::alloc::{AllocError, Global};
 use std::str;
 
-/// The status of a run, as an object and a line feed: the counts, the workers that are alive, and
-/// an object for each line that is in doubt, untouched or running. The text of the line k + 1
-/// stands at k. One that is no text is written as `null`.
+/// Returns the status of a run, as a JSON object and a line feed. It has the counts, the workers
+/// that are alive, and an object for each line that is in doubt, untouched or running. The text of
+/// the line k + 1 stands at k. A text that is not UTF-8 is written as `null`.
+///
+/// # Errors
+///
+/// `AllocError` if there was no memory.
 pub fn status_json(
     alloc: Global,
     counts: &Counts,
@@ -37,10 +41,14 @@ pub fn status_json(
     Ok(text)
 }
 
-/// The lines that are in doubt, as a list of such objects, and a line feed. Each has the time at
-/// which it was begun, the one at which it ended, and how many seconds ago that was by a clock that
-/// shows `now`. A time that is not known is `null`, and so is the age if the end is not known or
-/// ahead of the clock.
+/// Returns the lines that are in doubt, as a JSON list of objects, and a line feed. Each has the
+/// time at which it was begun, the one at which it ended, and how many seconds ago that was by a
+/// clock that shows `now`. A time that is not known is `null`, and so is the age if the end is not
+/// known or ahead of the clock.
+///
+/// # Errors
+///
+/// `AllocError` if there was no memory.
 pub fn doubts_json(
     alloc: Global,
     now: u64,
@@ -71,7 +79,7 @@ fn push_numbers(text: &mut Vec<u8>, alloc: Global, numbers: &[u64]) -> Result<()
     Ok(())
 }
 
-/// Adds a comma where something stands before.
+/// Adds a comma if an object stands before.
 fn push_comma(text: &mut Vec<u8>, later: bool) -> Result<(), AllocError>
     ensures { OnOk result (text.new.items ≡ text.old.items ++ comma_if later) }
 {
@@ -130,7 +138,7 @@ fn is_later(later: bool, clock: Option<u64>, state: State) -> bool
     later || is_shown(clock, state)
 }
 
-/// Returns true if a line that stands so is shown.
+/// Returns true if a line of this status is shown.
 fn is_shown(clock: Option<u64>, state: State) -> bool
     ensures { result ≡ is_shown clock state }
 {
@@ -168,7 +176,7 @@ fn timed_tail(alloc: Global, now: u64, standing: &LineStatus) -> Result<String, 
     format!(in alloc; ",\"state\":\"{word}\",\"time\":{time},\"ended\":{ended},\"age\":{age}}}")
 }
 
-/// A text as a JSON string. Bytes that are no text are `null`.
+/// Returns a text as a JSON string. Bytes that are not UTF-8 are `null`.
 #[tactic(auto, using(crate::proofs::JsonTexts::a_text, crate::proofs::JsonTexts::no_text))]
 fn text_or_null(alloc: Global, bytes: &[u8]) -> Result<String, AllocError>
     ensures { IfOk result (λ said. string_bytes said ≡ text_or_null bytes.now) }
@@ -179,7 +187,7 @@ fn text_or_null(alloc: Global, bytes: &[u8]) -> Result<String, AllocError>
     }
 }
 
-/// A text as a JSON string.
+/// Returns a text as a JSON string.
 fn quoted(alloc: Global, text: &str) -> Result<String, AllocError>
     ensures { IfOk result (λ said. string_bytes said ≡ quoted text.now) }
 {

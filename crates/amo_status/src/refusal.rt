@@ -1,13 +1,13 @@
-//! Why an answer of a person is refused.
+//! Refusals of answers.
 use httpdate::HttpDate;
 use std::fmt;
 use std::fmt::{Display, Formatter};
 use thiserror::Error;
 
-/// Why an answer of a person is refused.
+/// The reason that an answer of a person is refused.
 #[derive(Clone, Copy, Debug, PartialEq, Eq, Drop, Error)]
 pub enum Refusal {
-    /// There is no such intent.
+    /// The intent doesn't exist.
     #[error("no attempt has this number; take the number from `doubts` or `status`")]
     NoIntent,
     /// The intent is of another line.
@@ -25,7 +25,7 @@ pub enum Refusal {
     /// It was answered otherwise.
     #[error("the other answer was given before; an answer stays as it is")]
     AnsweredOtherwise,
-    /// It was answered so already.
+    /// It has this answer already.
     #[error("the same answer was given before; nothing is left to do")]
     AnsweredSo,
     /// It comes too early: no record says when the attempt ended.

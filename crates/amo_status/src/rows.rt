@@ -8,15 +8,15 @@ use crate::standing::LineStatus;
 use crate::state::{State, is};
 use std::alloc::{AllocError, Global};
 
-/// Which lines are listed, and how.
+/// The lines that are listed, and the form of their rows.
 #[derive(Clone, Copy, Debug, PartialEq, Eq)]
 pub(crate) enum Form {
-    /// Those in doubt, untouched or running, by state, intent and line.
+    /// The lines in doubt, untouched or running, by state, intent and line.
     Status,
     /// The lines in doubt, with the time at which they were begun, and how long ago they ended by a
     /// clock that shows this.
     Doubts(u64),
-    /// Those that stand so, by intent and line.
+    /// The lines of this status, by intent and line.
     Kind(State),
 }
 
@@ -38,7 +38,7 @@ pub(crate) fn push_rows(
     Ok(())
 }
 
-/// The text at this index.
+/// Returns the text at this index.
 pub(crate) fn text_at<'a>(texts: &[&'a [u8]], i: usize) -> &'a [u8]
     requires { i < length texts.now }
     ensures { result.now ≡ slice_index_or (map (λ t. t.now) texts.now) i [] }
@@ -65,7 +65,7 @@ fn push_row(
     push_parts(text, head.as_bytes(), job, tail.as_bytes())
 }
 
-/// Returns true if a line that stands so is listed in this form.
+/// Returns true if a line of this status is listed in this form.
 fn is_listed_in(form: Form, state: State) -> bool
     ensures { result ≡ is_listed_in form state }
 {
@@ -76,7 +76,7 @@ fn is_listed_in(form: Form, state: State) -> bool
     }
 }
 
-/// What stands before a line's text.
+/// Returns the part of a row before the line's text.
 fn row_head(
     alloc: Global,
     form: Form,
@@ -91,7 +91,7 @@ fn row_head(
     }
 }
 
-/// What stands behind it.
+/// Returns the part of a row after the line's text.
 fn row_tail(alloc: Global, form: Form, standing: &LineStatus) -> Result<String, AllocError>
     ensures { IfOk result (λ tail. string_bytes tail ≡ row_tail form standing.now) }
 {
@@ -110,7 +110,7 @@ fn doubt_tail(alloc: Global, now: u64, standing: &LineStatus) -> Result<String, 
     format!(in alloc; " {time} {age}\n")
 }
 
-/// What stands before a line's text, by state, intent and line.
+/// Returns the part of a row before the line's text, by state, intent and line.
 fn status_head(alloc: Global, line: u64, standing: &LineStatus) -> Result<String, AllocError>
     ensures { IfOk result (λ head. string_bytes head ≡ status_head line standing.now) }
 {
@@ -120,7 +120,7 @@ fn status_head(alloc: Global, line: u64, standing: &LineStatus) -> Result<String
     format!(in alloc; "{word} {worker}.{serial} {line} ")
 }
 
-/// What stands before a line's text, by intent and line.
+/// Returns the part of a row before the line's text, by intent and line.
 fn kind_head(alloc: Global, line: u64, standing: &LineStatus) -> Result<String, AllocError>
     ensures { IfOk result (λ head. string_bytes head ≡ kind_head line standing.now) }
 {
@@ -146,7 +146,7 @@ pub(crate) fn push_parts(
     text.extend_from_slice(tail)
 }
 
-/// The word of a state.
+/// Returns the word of a state.
 pub(crate) fn state_word(state: State) -> &'static str
     ensures { result.now ≡ state_word state }
 {
@@ -160,7 +160,7 @@ pub(crate) fn state_word(state: State) -> &'static str
     }
 }
 
-/// Returns true if the status lists a line that stands so.
+/// Returns true if the status lists a line of this status.
 pub(crate) fn is_listed(state: State) -> bool
     ensures { result ≡ is_listed state }
 {

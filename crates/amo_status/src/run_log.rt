@@ -1,11 +1,11 @@
-//! What a run has written down of its intents.
+//! The records of a run on its intents.
 use crate::state::AttemptId;
 use amo_run_log::{Attempt, Finding};
 
-/// What a run has written down of its intents, and which of them are settled.
+/// The records of a run on its intents, and those of the intents that are settled.
 #[derive(Clone, Copy)]
 pub struct RunLog<'a> {
-    /// What persons found out.
+    /// The findings of persons.
     pub findings: &'a [Finding],
     /// The journals of the workers 1, 2 and so on.
     pub journals: &'a [Vec<Attempt>],

@@ -1,4 +1,4 @@
-//! Answers of persons as they are said, in a file or in the words of a command.
+//! Answers of persons, in a file or in the words of a command.
 ghost use Rattle.std.specs.Fmt.{decimal};
 ghost use Rattle.std.specs.Prelude.{◌≡◌, ◌==◌, ◌<◌, ◌^◌, ℕ, Some, length, map, option_map, position, IfOk, IfErr, IfSome, IfNone};
 ghost use Rattle.amo_run_log.specs.declared.finding.Resolution.{Resolution as VerdictView};
@@ -12,8 +12,8 @@ use amo_run_log::{Fault, Resolution};
 use std::alloc::{AllocError, Global};
 use std::mem;
 
-/// An answer as it was said: to the intent of this worker and serial number, of this line, whose
-/// text was this.
+/// An answer of a person: to the intent of this worker and serial number, of this line, with this
+/// text.
 #[derive(Debug, PartialEq, Eq, Drop)]
 pub struct Said {
     pub worker: u64,
@@ -23,9 +23,14 @@ pub struct Said {
     pub verdict: Resolution,
 }
 
-/// The answers that a file says, a line each: the intent as `P.S`, the number of its line, the
+/// Returns the answers of a file, a line each: the intent as `P.S`, the number of its line, the
 /// line's text, and `done` or `not-done`, a tab between each two. The text may hold tabs. The last
-/// line may lack its end. The first line that says no answer is refused, by its number.
+/// line may lack its end.
+///
+/// # Errors
+///
+/// `Refused` with the number of the first line that isn't an answer. `Memory` if there was no
+/// memory.
 pub fn read_answers(alloc: Global, bytes: &[u8]) -> Result<Vec<Said>, Fault>
     ensures exact { IfOk result (λ said. read_all said_in (lines_in bytes.now) ≡ Some (map said_by said.items)) }
     ensures refused { IfErr result (IsRefused (lines_in bytes.now)) }
@@ -34,7 +39,7 @@ pub fn read_answers(alloc: Global, bytes: &[u8]) -> Result<Vec<Said>, Fault>
     said_on(alloc, &lines)
 }
 
-/// What each line says.
+/// Returns the answer of each line.
 fn said_on(alloc: Global, lines: &[Vec<u8>]) -> Result<Vec<Said>, Fault>
     ensures exact { IfOk result (λ said. read_all said_in (map (λ line. line.items) lines.now) ≡ Some (map said_by said.items)) }
     ensures refused { IfErr result (IsRefused (map (λ line. line.items) lines.now)) }
@@ -49,7 +54,7 @@ fn said_on(alloc: Global, lines: &[Vec<u8>]) -> Result<Vec<Said>, Fault>
     Ok(said)
 }
 
-/// The lines of a file.
+/// Returns the lines of a file.
 fn lines_of(alloc: Global, bytes: &[u8]) -> Result<Vec<Vec<u8>>, AllocError>
     ensures { IfOk result (λ lines. map (λ line. line.items) lines.items ≡ lines_in bytes.now) }
 {
@@ -69,7 +74,7 @@ fn lines_of(alloc: Global, bytes: &[u8]) -> Result<Vec<Vec<u8>>, AllocError>
     Ok(lines)
 }
 
-/// What a line says.
+/// Returns the answer of a line.
 fn said_of(alloc: Global, bytes: &[u8]) -> Result<Option<Said>, AllocError>
     ensures { IfOk result (λ found. option_map said_by found ≡ said_in bytes.now) }
 {
@@ -96,13 +101,13 @@ fn said_of(alloc: Global, bytes: &[u8]) -> Result<Option<Said>, AllocError>
     }))
 }
 
-/// The answer that three words of a command say: the intent as `P.S`, the number of its line, and
+/// Returns the answer of three words of a command: the intent as `P.S`, the number of its line, and
 /// `done` or `not-done`.
 pub fn read_one(intent: &str, line: &str, verdict: &str) -> Option<(AttemptId, u64, Resolution)>
     ensures exact { result ≡ words_in intent.now line.now verdict.now }
-    // What is read was printed so.
+    // The answer that is read has this text.
     ensures found { IfSome result (λ said. (intent_text said.0.worker said.0.serial ≡ intent.now) × (decimal said.1 ≡ line.now) × (word_of said.2 ≡ verdict.now)) }
-    // What was printed is read.
+    // The text of an answer is read.
     ensures none { IfNone result ((worker serial number : ℕ) (v : VerdictView) → worker < 2 ^ 64 → serial < 2 ^ 64 → number < 2 ^ 64
         → intent_text worker serial ≡ intent.now → decimal number ≡ line.now → word_of v ≡ verdict.now → ⊥) }
 {
@@ -117,7 +122,7 @@ fn words_of(intent: &[u8], line: &[u8], verdict: &[u8]) -> Option<(AttemptId, u6
     Some((intent, line, verdict))
 }
 
-/// The intent and the line that these name.
+/// Returns the intent and the line that these name.
 fn place_of(intent: &[u8], line: &[u8]) -> Option<(AttemptId, u64)>
     ensures { result ≡ place_in intent.now line.now }
 {
@@ -147,7 +152,7 @@ fn verdict_of(word: &[u8]) -> Option<Resolution>
     None
 }
 
-/// The verdict that stands last, and what stands before it.
+/// Returns the verdict at the end of the text, and the text before it.
 fn verdict_behind(text: &[u8]) -> Option<(&[u8], Resolution)>
     ensures { option_map (λ p. (p.0.now, p.1)) result ≡ verdict_behind text.now }
 {
@@ -158,7 +163,7 @@ fn verdict_behind(text: &[u8]) -> Option<(&[u8], Resolution)>
     Some((before, Resolution::NotDone))
 }
 
-/// What stands before this ending.
+/// Returns the text before this ending.
 fn before_end<'a>(text: &'a [u8], ending: &[u8]) -> Option<&'a [u8]>
     ensures { option_map (λ before. before.now) result ≡ before_end ending.now text.now }
 {
@@ -172,7 +177,7 @@ fn before_end<'a>(text: &'a [u8], ending: &[u8]) -> Option<&'a [u8]>
     Some(&text[..at])
 }
 
-/// What stands before the first such byte, and what behind it.
+/// Returns the text before the first such byte, and the text after it.
 #[tactic(auto, using(crate::proofs::SaidTexts::found_at, crate::proofs::SaidTexts::found_nowhere))]
 fn split_at(text: &[u8], byte: u8) -> Option<(&[u8], &[u8])>
     ensures { option_map (λ p. (p.0.now, p.1.now)) result ≡ split_at byte text.now }
@@ -183,7 +188,7 @@ fn split_at(text: &[u8], byte: u8) -> Option<(&[u8], &[u8])>
     Some((&text[..at], &text[at + 1..]))
 }
 
-/// Where the first such byte stands.
+/// Returns the place of the first such byte.
 fn place_of_byte(text: &[u8], byte: u8) -> Option<usize>
     ensures place { result ≡ position (λ b. b == byte) text.now }
     ensures within { IfSome result (λ at. at < length text.now) }

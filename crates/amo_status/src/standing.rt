@@ -1,4 +1,4 @@
-//! How the lines stand.
+//! The status of each line.
 ghost use Rattle.std.specs.Prelude.{◌≡◌, ◌+◌, ◌<◌, ℕ, length, map, slice_index_or, IfOk};
 ghost use Rattle.amo_run_log.specs.Open.{is_open, numbers};
 ghost use Rattle.amo_status.specs.declared.state.State.TheVariants.{Open};
@@ -11,17 +11,18 @@ use crate::state::{State, ended_at, is, state_of};
 use amo_run_log::Attempt;
 use std::alloc::{AllocError, Global};
 
-/// How a line stands now.
+/// The status of a line, and the intent that decides on it.
 #[derive(Clone, Copy, Debug, PartialEq, Eq)]
 pub struct LineStatus {
     pub state: State,
-    /// The worker of the intent by which the line is closed. 0 where it is open.
+    /// The worker of the intent that closes the line. 0 if the line is open.
     pub worker: u64,
-    /// The serial number of that intent. 0 where the line is open.
+    /// The serial number of that intent. 0 if the line is open.
     pub serial: u64,
-    /// When it was begun, in seconds since 1970. 0 where the line is open.
+    /// The time at which that intent was begun, in seconds since 1970. 0 if the line is open.
     pub time: u64,
-    /// When it ended, by its answer, in seconds since 1970. 0 if that is not known.
+    /// The time at which that intent ended, by its outcome, in seconds since 1970. 0 if that is not
+    /// known.
     pub ended: u64,
 }
 
@@ -33,15 +34,19 @@ const OPEN: LineStatus = LineStatus {
     ended: 0,
 };
 
-/// Returns how each of the lines 1..count stands, in order. If several intents close a line, one
+/// Returns the status of each of the lines 1..count, in order. If several intents close a line, one
 /// that is running decides, else the first in the order of the journals.
+///
+/// # Errors
+///
+/// `AllocError` if there was no memory.
 pub fn standings(
     alloc: Global,
     log: &RunLog<'_>,
     count: usize,
 ) -> Result<Vec<LineStatus>, AllocError>
     ensures exact { IfOk result (λ found. found.items ≡ standings_of log.now.findings.now (map (λ journal. journal.items) log.now.journals.now) log.now.finals.now count) }
-    // A line stands open just where it is open.
+    // A line has the status open exactly if it is open.
     ensures just_open { IfOk result (λ found. map (λ s. is Open s.state) found.items ≡ map (is_open log.now.findings.now (map (λ journal. journal.items) log.now.journals.now)) (numbers count)) }
 {
     let mut found = vec![in alloc; OPEN; count]?;
@@ -85,7 +90,7 @@ fn note_one(found: &mut [LineStatus], log: &RunLog<'_>, worker: u64, serial: u64
     found[at] = decided_with(before, log, worker, serial, attempt, line);
 }
 
-/// What decides on the line after this intent, before which it stood so.
+/// Returns the status that decides on the line after this intent, with this status before it.
 fn decided_with(
     before: LineStatus,
     log: &RunLog<'_>,
@@ -115,7 +120,7 @@ fn decided_with(
     decided_of(before, standing)
 }
 
-/// Which of two decides.
+/// Returns the one of two that decides.
 fn decided_of(old: LineStatus, new: LineStatus) -> LineStatus
     ensures { result ≡ decided_of old new }
 {
@@ -127,14 +132,14 @@ fn decided_of(old: LineStatus, new: LineStatus) -> LineStatus
     old
 }
 
-/// How this line stands.
+/// Returns the status of this line.
 pub(crate) fn standing_of(log: &RunLog<'_>, line: u64) -> LineStatus
     ensures { result ≡ standing_of log.now.findings.now (map (λ journal. journal.items) log.now.journals.now) log.now.finals.now line }
 {
     decided_by_all(log, line)
 }
 
-/// What decides on this line.
+/// Returns the status that decides on this line.
 fn decided_by_all(log: &RunLog<'_>, line: u64) -> LineStatus
     ensures { result ≡ decided_from open_standing (closing log.now.findings.now log.now.finals.now 1 (map (λ journal. journal.items) log.now.journals.now) line) }
 {
@@ -146,7 +151,7 @@ fn decided_by_all(log: &RunLog<'_>, line: u64) -> LineStatus
     standing
 }
 
-/// What decides on this line after this journal, before which it stood so.
+/// Returns the status that decides on this line after this journal, with this status before it.
 fn decided_by(
     before: LineStatus,
     log: &RunLog<'_>,

@@ -1,11 +1,11 @@
-//! How an intent stands.
+//! The status of an intent.
 ghost use Rattle.std.specs.Prelude.{◌≡◌};
 ghost use Rattle.amo_status.specs.States.{ended_at, is, is_among, is_found_done, number_of, state_by, state_in, state_of};
 
 use crate::run_log::RunLog;
 use amo_run_log::{Finding, Outcome, is_not_done, is_undone, reopens};
 
-/// How a line stands, or an intent.
+/// The status of a line, or of an intent.
 #[derive(Clone, Copy, Debug, PartialEq, Eq)]
 pub enum State {
     /// Nothing closes the line: it may be performed.
@@ -22,14 +22,14 @@ pub enum State {
     Running,
 }
 
-/// An intent: the worker whose it is, and its place in that worker's journal, each from 1.
+/// The identity of an intent: its worker, and its place in that worker's journal, each from 1.
 #[derive(Clone, Copy, Debug, PartialEq, Eq)]
 pub struct AttemptId {
     pub worker: u64,
     pub serial: u64,
 }
 
-/// How the intent of this worker and serial number stands, of which this answer is known.
+/// Returns the status of the intent of this worker and serial number, with this outcome.
 pub(crate) fn state_of(log: &RunLog<'_>, worker: u64, serial: u64, answer: Option<Outcome>) -> State
     ensures { result ≡ state_of log.now.findings.now log.now.finals.now worker serial answer }
 {
@@ -42,7 +42,7 @@ pub(crate) fn state_of(log: &RunLog<'_>, worker: u64, serial: u64, answer: Optio
     state_by(is_among(log.finals, worker, serial), answer)
 }
 
-/// How an intent stands by what is known of it.
+/// Returns the status of an intent by what is known of it.
 fn state_by(is_final: bool, answer: Option<Outcome>) -> State
     ensures { result ≡ state_by is_final answer }
 {
@@ -65,7 +65,8 @@ fn state_in(answer: Outcome) -> State
     }
 }
 
-/// Returns when an intent ended, by its answer, in seconds since 1970; 0 if that is not known.
+/// Returns the time at which an intent ended, by its outcome, in seconds since 1970. It is 0 if
+/// that is not known.
 pub(crate) fn ended_at(answer: Option<Outcome>) -> u64
     ensures { result ≡ ended_at answer }
 {
@@ -77,7 +78,7 @@ pub(crate) fn ended_at(answer: Option<Outcome>) -> u64
     }
 }
 
-/// Returns true if a person found that what was intended was done.
+/// Returns true if a person found that the line was done.
 pub(crate) fn is_found_done(findings: &[Finding], worker: u64, serial: u64) -> bool
     ensures { result ≡ is_found_done findings.now worker serial }
 {

@@ -1,5 +1,6 @@
--- What stands above and below the columns of a picture of jobs: the numbers of jobs, and the band, which has for each job a mark in the
--- lane of the worker that has claimed it, or in the last lane. In it n is the number of jobs, or of blocks.
+-- The parts above and below the columns of a picture of jobs: the numbers of jobs, and the band.
+-- The band has for each job a mark in the lane of the worker that has claimed it, or in the last
+-- lane. Here n is the number of jobs, or of blocks.
 use Rattle.std.specs.Prelude.{ℕ, zero, suc, ◌+◌, ◌%◌, List, [], ◌∷◌, ◌++◌, ◌==◌, if◌then◌else◌, codes}
 use Rattle.amo_trace.specs.declared.transition.Transition.{Transition}
 use Rattle.amo_svg.specs.declared.pieces.Kind.TheVariants.{Shares}
@@ -9,7 +10,7 @@ use Rattle.amo_svg.specs.Pieces.{worker_class, path}
 use Rattle.amo_svg.specs.Scale.{place, wide, grid_step, band}
 use Rattle.amo_svg.specs.Wording.{fixed_text}
 
--- the number of job j of n and its tick, so far down, where the job has one
+-- the number of job j of n and its tick, so far down, if the job has one
 unfoldable pub axis_mark : ℕ → ℕ → ℕ → ℕ → List ℕ
 axis_mark tick y n j =
     if j % grid_step n == 0

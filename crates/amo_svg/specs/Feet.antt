@@ -1,4 +1,4 @@
--- What stands below the lanes of a picture of rows.
+-- The parts below the lanes of a picture of rows.
 use Rattle.std.specs.Prelude.{ℕ, zero, suc, ◌+◌, ◌-◌, List, [], ◌++◌, count_by, codes}
 use Rattle.std.specs.Fmt.{decimal}
 use Rattle.amo_kk.specs.World.{process}

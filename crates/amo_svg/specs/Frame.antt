@@ -34,19 +34,20 @@ listed_words version js = list_start version ++ spaced js
 unfoldable pub counted_words : ℕ → ℕ → List ℕ
 counted_words version count = codes "unclaimed " ++ decimal count ++ codes " " ++ jobs_word version
 
--- which jobs nobody has claimed, or how many they are where they are more than MOST_LISTED
+-- the jobs that nobody has claimed, or their number if they are more than MOST_LISTED
 unfoldable pub unclaimed_words : ℕ → List ℕ → List ℕ
 unclaimed_words version js =
     if length js == 0 then codes "unclaimed none" else
     if nat_le (length js) MOST_LISTED then listed_words version js else counted_words version (length js)
 
--- what the report tells of the run: its first line, its lines of workers, and the line of what was performed
+-- the report's words on the run: its first line, its lines of workers, and the line of the
+-- performed jobs
 unfoldable pub heading : PlanSeen → World → List ℕ
 heading p w =
     first_line p.version p.block (length p.names) p.givens ++ worker_lines w.history 1 (turns_of p.givens w)
     ++ performed_line p.version p.block (length p.names) (done_jobs w.history)
 
--- the title, and what a reader is told who doesn't see the picture
+-- the title, and a description for a reader that doesn't see the picture
 unfoldable pub description : PlanSeen → World → List ℕ → List ℕ
 description p w js = fixed_text Title ++ heading p w ++ unclaimed_words p.version js ++ fixed_text More
 

@@ -19,7 +19,7 @@ use Rattle.amo_svg.specs.Pieces.{worker_class, path}
 use Rattle.amo_svg.specs.Scale.{last_number, at, end_of, wide, grid_step, narrow_lane, band}
 use Rattle.amo_svg.specs.Wording.{jobs_key}
 
--- what worker p claimed and where it failed, by paths of these kinds and this width
+-- the claims of worker p and its failures, by paths of these kinds and this width
 unfoldable pub worker_paths : ℕ → Kind → Kind → ℕ → ℕ → List Transition → List ℕ
 worker_paths width claims failures n p rows = path (worker_class p) width claims n p rows ++ path (codes "x") width failures n p rows
 
@@ -63,7 +63,7 @@ abbrev pub workers_drawn : List Event → ℕ → List Transition → ℕ → Li
 workers_drawn history n rows zero = []
 workers_drawn history n rows (suc m) = workers_drawn history n rows m ++ worker_drawn history n rows (suc m)
 
--- the level line of move i, which its number stands before, where the move has one
+-- the level line of move i, after its number, if the move has one
 unfoldable pub grid_line : ℕ → ℕ → ℕ → List ℕ
 grid_line width last i =
     if i % grid_step last == 0
@@ -92,7 +92,7 @@ jobs_width p = 880 + 36 * max p.givens.workers 2
 abbrev pub band_end : PlanSeen → ℕ
 band_end p = band (p.givens.workers + 1)
 
--- what is behind the workers' marks
+-- the ground below the workers' marks
 unfoldable pub jobs_ground : PlanSeen → List Transition → List ℕ
 jobs_ground p rows =
     jobs_head p.version p.givens.jobs ++ axes (columns_of p) (band_end p) ++ grid (jobs_width p) (last_number rows) (last_number rows)

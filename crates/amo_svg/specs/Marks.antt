@@ -1,4 +1,4 @@
--- What a picture shows of a transition.
+-- The picture of a transition.
 use Rattle.std.specs.Prelude.{ℕ, ◌+◌, ◌-◌, ◌*◌, ◌/◌, Bool, true, false, ◌&&◌, List, [], ◌++◌, length, nat_lt, ◌==◌, if◌then◌else◌, codes}
 use Rattle.std.specs.Fmt.{decimal}
 use Rattle.std.specs.List.{position_or_len}
@@ -77,7 +77,7 @@ label_of (Claim j) over = codes "claims " ++ decimal j
 label_of (Filing j) over = codes "has done " ++ decimal j ++ ends over
 label_of Still over = []
 
--- where the lifeline of worker p is
+-- the place of the lifeline of worker p
 abbrev pub lane : ℕ → ℕ
 lane p = 176 * p - 100
 
@@ -85,7 +85,8 @@ lane p = 176 * p - 100
 abbrev pub row : ℕ → ℕ
 row r = 72 + 18 * (r + (r - 1) / RULED_ROWS)
 
--- 1, and the number of transitions of these before the first of worker p that passes, or all where none does
+-- 1, and the number of transitions of these before the first of worker p that passes, or all if
+-- none does
 abbrev pub until : (Transition → Bool) → ℕ → List Transition → ℕ
 until test p rest = position_or_len (λ s. (s.worker == p) && test s) rest + 1
 

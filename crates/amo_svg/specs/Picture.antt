@@ -30,7 +30,7 @@ rows_picture p w js rows =
     ++ foot p w js (rows_end rows + 60)
     ++ key (rows_end rows + 60) rows_key
 
--- rows are drawn where they are not too many, else the jobs
+-- rows are drawn if they are not too many, else the jobs
 abbrev pub picture_in : PlanSeen → World → List ℕ → List Transition → List ℕ
 picture_in p w js rows = if nat_le (length rows) MOST_ROWS then rows_picture p w js rows else jobs_picture p w js rows
 

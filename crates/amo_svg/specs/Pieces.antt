@@ -33,7 +33,7 @@ piece_y kind last p s = at last s.number
 abbrev pub next_filing : ℕ → List Transition → Option Transition
 next_filing p rest = slice_get rest (position_or_len (λ s. (s.worker == p) && is_filing (mark_of s)) rest)
 
--- a mark in the band is high where the job is performed by one of the transitions to come, else low
+-- a mark in the band is high if the job is performed by one of the transitions to come, else low
 abbrev pub mark_end : Option Transition → List ℕ
 mark_end None = codes "v-4"
 mark_end (Some s) = codes "v-10"

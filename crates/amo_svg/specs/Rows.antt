@@ -66,7 +66,7 @@ abbrev pub row_texts : ℕ → ℕ → List Transition → List ℕ
 row_texts workers r [] = []
 row_texts workers r (s ∷ rest) = row_text r s rest ++ ruler_below workers r s ++ row_texts workers (r + 1) rest
 
--- the head of the lane of worker p with its lifeline, which ends where the worker is gone
+-- the head of the lane of worker p with its lifeline, which ends once the worker is gone
 unfoldable pub lane_head : List Transition → ℕ → List ℕ
 lane_head rows p =
     head_text (lane p - 20) 56 p ++ straight (codes "f") 1 (lane p) 64 (codes "v") (row (until (λ s. s.gone) p rows) - 64)

@@ -2,7 +2,7 @@
 use Rattle.std.specs.Prelude.{ℕ, ◌+◌, ◌-◌, ◌*◌, ◌/◌, max, List, length, Option, Some, None, slice_get, nat_lt, if◌then◌else◌}
 use Rattle.amo_trace.specs.declared.transition.Transition.{Transition}
 
--- the number of a transition, or 1 where there is none
+-- the number of a transition, or 1 without a transition
 abbrev pub number_in : Option Transition → ℕ
 number_in None = 1
 number_in (Some s) = s.number
@@ -15,7 +15,8 @@ last_number rows = max (number_in (slice_get rows (length rows - 1))) 1
 abbrev pub at : ℕ → ℕ → ℕ
 at last i = 72 + 960 * i / last
 
--- how far down what a transition ends goes: so far below its move, or to the foot where there is none
+-- how far down the end of a transition goes: so far below its move, or to the foot without a
+-- transition
 abbrev pub end_of : ℕ → ℕ → Option Transition → ℕ
 end_of last below None = 1032
 end_of last below (Some s) = at last s.number + below
@@ -40,7 +41,7 @@ power v =
 abbrev pub grid_step : ℕ → ℕ
 grid_step last = last / 8 / power (last / 8) * power (last / 8) + power (last / 8)
 
--- where the lane of worker p is
+-- the place of the lane of worker p
 abbrev pub narrow_lane : ℕ → ℕ
 narrow_lane p = 848 + 36 * p
 

@@ -3,8 +3,8 @@ use Rattle.std.specs.Prelude.{ℕ, List, [], ◌∷◌, codes}
 use Rattle.amo_svg.specs.declared.wording.Wording.{Wording}
 use Rattle.amo_svg.specs.declared.wording.Wording.TheVariants.{SvgOpen, Title, More, LightStyle, DarkStyle, LanesKey, BarsKey, HandsKey, LinesKey, CrossesKey, ColumnsKey, NarrowLanesKey, BandKey, FreeTitle}
 
--- how a picture begins, its title, what else a reader is told who doesn't see it, its colours, what the marks say, and the title
--- of the last lane of the band
+-- the beginning of a picture, its title, the description for a reader that doesn't see it, its
+-- colours, the words of the marks, and the title of the last lane of the band
 unfoldable pub fixed_text : Wording → List ℕ
 fixed_text SvgOpen = codes "<svg xmlns=\"http://www.w3.org/2000/svg\" lang=\"en\" role=\"img\" font-family=\"monospace\" font-size=\"12\" viewBox=\"0 0 "
 fixed_text Title = codes "<title>Run of a plan</title>\n<desc>"

@@ -1,5 +1,5 @@
-//! Writes what stands above and below the columns of a picture of jobs: the numbers of jobs, and
-//! the band that says who has claimed which job.
+//! Writes the parts above and below the columns of a picture of jobs: the numbers of jobs, and the
+//! band that shows who has claimed each job.
 ghost use Rattle.std.specs.Prelude.{◌≡◌, ◌++◌, ◌<◌, ◌≤◌, ◌^◌, OnOk, string_bytes};
 ghost use Rattle.amo_svg.specs.Band.{axis_mark, axis, axes, band_lane, free_marks, free_title, free_lane};
 
@@ -13,7 +13,7 @@ use crate::wording::{Wording, fixed_text};
 use amo_trace::Transition;
 use std::alloc::AllocError;
 
-/// Appends the number of a job at this height, and its tick, so far down, where the job has one.
+/// Appends the number of a job at this height, and its tick, so far down, if the job has one.
 #[tactic(auto, unfolding(crate::specs::Band::axis_mark))]
 fn push_axis_mark(
     out: &mut String,

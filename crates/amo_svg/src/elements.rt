@@ -4,7 +4,7 @@ ghost use Rattle.amo_svg.specs.Elements.{attribute, two_attributes, text_start, 
 
 use std::alloc::AllocError;
 
-/// Appends an attribute, after what is before, up to its own last quote.
+/// Appends an attribute, up to its own last quote.
 #[tactic(auto, unfolding(crate::specs::Elements::attribute))]
 fn push_attribute(out: &mut String, name: &str, value: u128) -> Result<(), AllocError>
     ensures { OnOk result (string_bytes out.new ≡ string_bytes out.old ++ attribute name.now value) }

@@ -15,7 +15,7 @@ use amo_render::{
 use amo_report::all_turns;
 use std::alloc::{AllocError, Global};
 
-/// More jobs that nobody has claimed are counted, and not listed.
+/// The most jobs without a claim that are listed. More of them are counted instead.
 const MOST_LISTED: usize = 8;
 
 /// Appends the start of a picture of this width and height.
@@ -29,14 +29,14 @@ fn push_svg_start(out: &mut String, width: u128, height: u128) -> Result<(), All
     out.push_str("\n")
 }
 
-/// What the algorithm's jobs are.
+/// Returns the word for the algorithm's jobs.
 pub(crate) fn jobs_word(version: u32) -> &'static str
     ensures { result.now ≡ jobs_word version }
 {
     if version == 1 { "jobs" } else { "blocks" }
 }
 
-/// How the list of unclaimed jobs begins.
+/// Returns how the list of unclaimed jobs begins.
 fn list_start(version: u32) -> &'static str
     ensures { result.now ≡ list_start version }
 {
@@ -74,7 +74,7 @@ fn push_counted_words(out: &mut String, version: u32, count: usize) -> Result<()
     out.push_str(jobs_word(version))
 }
 
-/// Appends which jobs nobody has claimed, these, or how many they are.
+/// Appends these jobs, which nobody has claimed, or their number.
 #[tactic(auto, unfolding(crate::specs::Frame::unclaimed_words))]
 fn push_unclaimed_words(out: &mut String, version: u32, unclaimed: &[u32]) -> Result<(), AllocError>
     ensures { OnOk result (string_bytes out.new ≡ string_bytes out.old ++ unclaimed_words version unclaimed.now) }
@@ -88,7 +88,7 @@ fn push_unclaimed_words(out: &mut String, version: u32, unclaimed: &[u32]) -> Re
     }
 }
 
-/// Appends what the report tells of the run, besides its history and its results.
+/// Appends the report's words on the run, without its history and its results.
 #[tactic(auto, unfolding(crate::specs::Frame::heading))]
 fn push_heading(alloc: Global, out: &mut String, scene: &Scene<'_>) -> Result<(), AllocError>
     requires { scene.now.world.now.givens ≡ scene.now.plan.now.heads.givens }
@@ -103,7 +103,7 @@ fn push_heading(alloc: Global, out: &mut String, scene: &Scene<'_>) -> Result<()
     push_performed(out, heads, history)
 }
 
-/// Appends the title of a picture, and what a reader is told who doesn't see it.
+/// Appends the title of a picture, and the description for a reader that doesn't see it.
 #[tactic(auto, unfolding(crate::specs::Frame::description))]
 fn push_description(alloc: Global, out: &mut String, scene: &Scene<'_>) -> Result<(), AllocError>
     requires { scene.now.world.now.givens ≡ scene.now.plan.now.heads.givens }
@@ -164,7 +164,7 @@ pub(crate) fn push_head(
     push_first_text(out, scene.plan)
 }
 
-/// Appends at this height what was performed.
+/// Appends the performed jobs, at this height.
 #[tactic(auto, unfolding(crate::specs::Frame::performed_text))]
 fn push_performed_text(out: &mut String, scene: &Scene<'_>, y: u128) -> Result<(), AllocError>
     ensures { OnOk result (string_bytes out.new ≡ string_bytes out.old ++ performed_text (plan_seen scene.now.plan.now) scene.now.world.now.world y) }
@@ -175,7 +175,7 @@ fn push_performed_text(out: &mut String, scene: &Scene<'_>, y: u128) -> Result<(
     out.push_str("</text>\n")
 }
 
-/// Appends at this height which jobs nobody has claimed, these, or how many they are.
+/// Appends these jobs, which nobody has claimed, or their number, at this height.
 #[tactic(auto, unfolding(crate::specs::Frame::unclaimed_text))]
 fn push_unclaimed_text(
     out: &mut String,
@@ -200,7 +200,7 @@ pub(crate) fn push_foot(out: &mut String, scene: &Scene<'_>, y: u128) -> Result<
     push_unclaimed_text(out, scene.plan.heads.version, scene.unclaimed, y + 16)
 }
 
-/// Appends what the marks say, in these lines below this height, and the end of the picture.
+/// Appends the words of the marks, in these lines below this height, and the end of the picture.
 pub(crate) fn push_key(out: &mut String, y: u128, lines: &[Wording]) -> Result<(), AllocError>
     requires { y < 2 ^ 100 }
     ensures { OnOk result (string_bytes out.new ≡ string_bytes out.old ++ key y lines.now) }

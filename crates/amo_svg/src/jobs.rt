@@ -1,5 +1,5 @@
-//! Writes what the picture of a long run has besides its frame: a column for each job, and a narrow
-//! lane for each worker.
+//! Writes the picture of a long run, without its frame: a column for each job, and a narrow lane
+//! for each worker.
 ghost use Rattle.std.specs.Prelude.{◌≡◌, ◌++◌, ◌<◌, ◌≤◌, ◌^◌, OnOk, string_bytes};
 ghost use Rattle.amo_plan.specs.PlanSeen.{plan_seen};
 ghost use Rattle.amo_svg.specs.Jobs.{worker_paths, going, going_shape, lifeline, lane_number, lane_numbers, worker_title, worker_drawn, workers_drawn, grid_line, grid, jobs_head, columns_of, jobs_width, band_end, jobs_ground};
@@ -20,7 +20,7 @@ use amo_render::dones_of;
 use amo_trace::{Transition, transition_at};
 use std::alloc::AllocError;
 
-/// Appends what a worker claimed and where it failed, by paths of these kinds and this width.
+/// Appends the claims of a worker and its failures, by paths of these kinds and this width.
 #[tactic(auto, unfolding(crate::specs::Jobs::worker_paths))]
 fn push_worker_paths(
     out: &mut String,
@@ -38,14 +38,14 @@ fn push_worker_paths(
     push_path(out, "x", width, failures, jobs, worker, rows)
 }
 
-/// The row after which the worker is gone.
+/// Returns the row after which the worker is gone.
 fn going(worker: u32, rows: &[Transition]) -> Option<Transition>
     ensures { result ≡ going worker rows.now }
 {
     transition_at(rows, until_gone(worker, rows))
 }
 
-/// The mark of a worker that is gone in this phase.
+/// Returns the mark of a worker that is gone in this phase.
 fn going_shape(phase: Phase) -> &'static str
     ensures { result.now ≡ going_shape phase }
 {
@@ -189,7 +189,7 @@ fn push_jobs_head(out: &mut String, version: u32, jobs: u32) -> Result<(), Alloc
     push_text(out, "i", 16, 1048, "claimed by")
 }
 
-/// How many jobs the columns are placed by.
+/// Returns how many jobs the columns are placed by.
 pub(crate) fn columns_of(plan: &Plan) -> u32
     ensures value { result ≡ columns_of (plan_seen plan.now) }
     ensures some { 1 ≤ result }
@@ -197,14 +197,14 @@ pub(crate) fn columns_of(plan: &Plan) -> u32
     plan.heads.givens.jobs.max(1)
 }
 
-/// How wide the picture is.
+/// Returns how wide the picture is.
 pub(crate) fn jobs_width(plan: &Plan) -> u128
     ensures value { result ≡ jobs_width (plan_seen plan.now) }
 {
     880 + 36 * plan.heads.givens.workers.max(2) as u128
 }
 
-/// How far down the band ends.
+/// Returns how far down the band ends.
 pub(crate) fn band_end(plan: &Plan) -> u128
     ensures value { result ≡ band_end (plan_seen plan.now) }
     ensures near { result < 2 ^ 40 }
@@ -212,7 +212,7 @@ pub(crate) fn band_end(plan: &Plan) -> u128
     band(plan.heads.givens.workers + 1)
 }
 
-/// Appends what is behind the workers' marks.
+/// Appends the ground below the workers' marks.
 #[tactic(auto, unfolding(crate::specs::Jobs::jobs_ground))]
 pub(crate) fn push_jobs_ground(out: &mut String, scene: &Scene<'_>) -> Result<(), AllocError>
     ensures { OnOk result (string_bytes out.new ≡ string_bytes out.old ++ jobs_ground (plan_seen scene.now.plan.now) scene.now.rows.now) }

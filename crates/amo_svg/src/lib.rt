@@ -1,4 +1,12 @@
-//! The picture of a plan's run as an SVG text. Start with `picture_text`.
+//! The picture of a plan's run as an SVG text.
+//!
+//! Start at [`picture_text`].
+//!
+//! | here | in the glossary |
+//! |---|---|
+//! | p | a worker |
+//! | j | a job |
+//! | q | another worker |
 #![tactic(auto)]
 
 mod band;

@@ -1,4 +1,4 @@
-//! What a picture shows of a transition.
+//! The marks of transitions in a picture.
 ghost use Rattle.std.specs.Prelude.{◌≡◌, ◌++◌, ◌+◌, ◌<◌, ◌≤◌, ◌^◌, ◌&&◌, ◌==◌, OnOk, IfOk, string_bytes, length};
 ghost use Rattle.std.specs.List.{position_or_len};
 ghost use Rattle.amo_kk.specs.Record.{is_over};
@@ -12,7 +12,7 @@ use amo_kk::Want;
 use amo_trace::{Act, Transition, job_of, push_done, push_equals, push_next};
 use std::alloc::{AllocError, Global};
 
-/// What is drawn of a transition.
+/// The mark of a transition.
 #[derive(Clone, Copy, Debug)]
 pub(crate) enum Mark {
     /// It is stopped.
@@ -37,7 +37,7 @@ pub(crate) enum Mark {
     Still,
 }
 
-/// The mark of a load that gives this value, by the worker's own job.
+/// Returns the mark of a load that gives this value, by the worker's own job.
 fn mark_of_load(job: u32, want: Want, value: u32) -> Mark
     ensures { result ≡ mark_of_load job want value }
 {
@@ -50,7 +50,7 @@ fn mark_of_load(job: u32, want: Want, value: u32) -> Mark
     }
 }
 
-/// The mark of a load or store.
+/// Returns the mark of a load or store.
 fn mark_of_want(job: u32, want: Want, value: u32) -> Mark
     ensures { result ≡ mark_of_want job want value }
 {
@@ -63,7 +63,7 @@ fn mark_of_want(job: u32, want: Want, value: u32) -> Mark
     }
 }
 
-/// The mark of an act, by the worker's own job.
+/// Returns the mark of an act, by the worker's own job.
 fn mark_of_act(job: u32, act: Act) -> Mark
     ensures { result ≡ mark_of_act job act }
 {
@@ -75,7 +75,7 @@ fn mark_of_act(job: u32, act: Act) -> Mark
     }
 }
 
-/// The mark of a transition.
+/// Returns the mark of a transition.
 pub(crate) fn mark_of(transition: &Transition) -> Mark
     ensures { result ≡ mark_of transition.now }
 {
@@ -86,7 +86,7 @@ pub(crate) fn mark_of(transition: &Transition) -> Mark
     mark_of_act(job, transition.act)
 }
 
-/// The colour of a mark's words.
+/// Returns the colour of a mark's words.
 pub(crate) fn class_of(mark: Mark) -> &'static str
     ensures { result.now ≡ class_of mark }
 {
@@ -111,7 +111,7 @@ fn push_loaded(out: &mut String, want: Want) -> Result<(), AllocError>
     }
 }
 
-/// What follows a value that was loaded.
+/// Returns the words after a value that was loaded.
 fn sees_more(want: Want) -> &'static str
     ensures { result.now ≡ sees_more want }
 {
@@ -133,14 +133,14 @@ fn push_sees(out: &mut String, want: Want, value: u32) -> Result<(), AllocError>
     out.push_str(sees_more(want))
 }
 
-/// What follows words that may be the last of a worker.
+/// Returns the words after those that may be the last of a worker.
 fn ends(over: bool) -> &'static str
     ensures { result.now ≡ ends over }
 {
     if over { ", ends" } else { "" }
 }
 
-/// Appends the words of a mark, given whether the worker has ended.
+/// Appends the words of a mark. `over` is true if the worker has ended.
 #[tactic(auto, unfolding(crate::specs::Marks::label_of))]
 pub(crate) fn push_label(out: &mut String, mark: Mark, over: bool) -> Result<(), AllocError>
     ensures { OnOk result (string_bytes out.new ≡ string_bytes out.old ++ label_of mark over) }
@@ -167,10 +167,10 @@ pub(crate) fn push_label(out: &mut String, mark: Mark, over: bool) -> Result<(),
     }
 }
 
-/// The heads of the lanes come again each time that so many rows have been drawn.
+/// The number of rows after which the heads of the lanes are drawn again.
 pub(crate) const RULED_ROWS: usize = 50;
 
-/// How far down a row is.
+/// Returns how far down a row is.
 pub(crate) fn row(number: usize) -> u128
     ensures value { result ≡ row number }
     ensures near { result < 2 ^ 80 }
@@ -179,7 +179,7 @@ pub(crate) fn row(number: usize) -> u128
     72 + 18 * (number as u128 + heads as u128)
 }
 
-/// Where the lifeline of a worker is.
+/// Returns the place of a worker's lifeline.
 pub(crate) fn lane(worker: u32) -> u128
     ensures value { result ≡ lane worker }
     ensures near { result < 2 ^ 40 }
@@ -222,7 +222,7 @@ fn files(worker: u32, transition: &Transition) -> bool
     transition.worker == worker && is_filing(transition)
 }
 
-/// How many of these transitions come before the worker's next store to its announcement.
+/// Returns how many of these transitions come before the worker's next store to its announcement.
 fn until_announcement(worker: u32, rest: &[Transition]) -> usize
     ensures value { result ≡ position_or_len (λ s. (s.worker == worker) && is_announcement (mark_of s)) rest.now }
     ensures few { result ≤ length rest.now }
@@ -232,7 +232,7 @@ fn until_announcement(worker: u32, rest: &[Transition]) -> usize
         .count()
 }
 
-/// How many of these transitions come before the worker's next performance.
+/// Returns how many of these transitions come before the worker's next performance.
 pub(crate) fn until_filing(worker: u32, rest: &[Transition]) -> usize
     ensures value { result ≡ position_or_len (λ s. (s.worker == worker) && is_filing (mark_of s)) rest.now }
     ensures few { result ≤ length rest.now }
@@ -242,7 +242,7 @@ pub(crate) fn until_filing(worker: u32, rest: &[Transition]) -> usize
         .count()
 }
 
-/// Whose word is loaded.
+/// Returns the worker whose word is loaded.
 fn loaded_of(want: Want) -> u32
     ensures { result ≡ loaded_of want }
 {
@@ -252,7 +252,7 @@ fn loaded_of(want: Want) -> u32
     }
 }
 
-/// Where the word is that is loaded.
+/// Returns the place of the word that is loaded.
 fn seen_at(want: Want) -> u128
     ensures { result ≡ seen_at want }
 {
@@ -263,7 +263,7 @@ fn seen_at(want: Want) -> u128
     }
 }
 
-/// Where the line of a load begins.
+/// Returns the beginning of the line of a load.
 fn line_start(worker: u32, want: Want, label: &str) -> u128
     ensures { result ≡ line_start worker want label.now }
 {
@@ -296,7 +296,7 @@ fn push_line(
     push_level(out, seen_at(want))
 }
 
-/// How far a row and the row so many rows below it are apart.
+/// Returns the distance between a row and the row so many rows below it.
 fn apart(number: usize, rows: usize) -> u128
     requires number { number ≤ MOST_ROWS }
     requires rows { rows ≤ MOST_ROWS + 1 }

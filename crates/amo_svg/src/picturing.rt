@@ -23,7 +23,7 @@ use std::alloc::{AllocError, Global};
 /// The most rows of a picture; of a longer run the jobs are drawn.
 const MOST_ROWS: usize = 400;
 
-/// The transitions that change something. The only error is out of memory.
+/// Returns the transitions that change something. Fails if there was no memory.
 fn rows_of(alloc: Global, transitions: &[Transition]) -> Result<Vec<Transition>, AllocError>
     ensures { IfOk result (λ v. v.items ≡ filter (λ s. acts s.act) transitions.now) }
 {
@@ -81,8 +81,12 @@ fn push_picture(alloc: Global, out: &mut String, scene: &Scene<'_>) -> Result<()
     push_jobs_picture(alloc, out, scene)
 }
 
-/// The picture of a plan, an SVG: a row for each move that changes something where they are at most
-/// `MOST_ROWS`, else a column for each job. The only error is out of memory.
+/// Returns the picture of a plan, an SVG text. It has a row for each move that changes something,
+/// if these are at most `MOST_ROWS`. Otherwise it has a column for each job.
+///
+/// # Errors
+///
+/// `AllocError` if there was no memory.
 pub fn picture_text(alloc: Global, plan: &Plan) -> Result<String, AllocError>
     ensures { IfOk result (λ s. string_bytes s ≡ picture_of (plan_seen plan.now)) }
 {

@@ -9,7 +9,7 @@ use crate::scale::{at, band, end_of, last_number, narrow_lane, place};
 use amo_trace::{Transition, job_of, transition_at};
 use std::alloc::AllocError;
 
-/// What the pieces of a path are.
+/// The kind of a path's pieces.
 #[derive(Clone, Copy, Debug)]
 pub(crate) enum Kind {
     /// The jobs that were performed, grey from then on.
@@ -38,7 +38,7 @@ fn is_drawn(kind: Kind, worker: u32, transition: &Transition) -> bool
     }
 }
 
-/// How far to the right the piece is.
+/// Returns how far to the right the piece is.
 fn piece_x(kind: Kind, jobs: u32, worker: u32, transition: &Transition) -> u128
     requires { 1 ≤ jobs }
     ensures { result ≡ piece_x kind jobs worker transition.now }
@@ -52,7 +52,7 @@ fn piece_x(kind: Kind, jobs: u32, worker: u32, transition: &Transition) -> u128
     }
 }
 
-/// How far down the piece is.
+/// Returns how far down the piece is.
 fn piece_y(kind: Kind, last: usize, worker: u32, transition: &Transition) -> u128
     requires { 1 ≤ last }
     ensures { result ≡ piece_y kind last worker transition.now }
@@ -65,14 +65,14 @@ fn piece_y(kind: Kind, last: usize, worker: u32, transition: &Transition) -> u12
     }
 }
 
-/// The first of these transitions in which the worker stores a performance.
+/// Returns the first of these transitions in which the worker stores a performance.
 fn next_filing(worker: u32, rest: &[Transition]) -> Option<Transition>
     ensures { result ≡ next_filing worker rest.now }
 {
     transition_at(rest, until_filing(worker, rest))
 }
 
-/// How a mark in the band goes on, by the performance of its job.
+/// Returns how a mark in the band goes on, by the performance of its job.
 fn mark_end(filing: Option<Transition>) -> &'static str
     ensures { result.now ≡ mark_end filing }
 {
@@ -167,7 +167,7 @@ pub(crate) fn push_path(
     out.push_str("\"/>\n")
 }
 
-/// The colour of a worker.
+/// Returns the colour of a worker.
 pub(crate) fn worker_class(worker: u32) -> &'static str
     ensures { result.now ≡ worker_class worker }
 {

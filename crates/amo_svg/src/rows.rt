@@ -16,7 +16,7 @@ pub(crate) fn changes(transition: &Transition) -> bool
     !matches!(transition.act, Act::Stays | Act::Idles)
 }
 
-/// Appends what is below the mark of the last transition of a worker that has ended.
+/// Appends the words below the mark of the last transition of a worker that has ended.
 fn push_end_mark(out: &mut String, worker: u32, y: u128, over: bool) -> Result<(), AllocError>
     requires { y < 2 ^ 100 }
     ensures { OnOk result (string_bytes out.new ≡ string_bytes out.old ++ end_mark worker y over) }
@@ -37,7 +37,7 @@ fn push_row_title(out: &mut String, transition: &Transition) -> Result<(), Alloc
     out.push_str("</title>\n")
 }
 
-/// The words of a transition. The only error is out of memory.
+/// Returns the words of a transition. Fails if there was no memory.
 fn label_in(alloc: Global, transition: &Transition) -> Result<String, AllocError>
     ensures { IfOk result (λ s. string_bytes s ≡ label_in transition.now) }
 {
@@ -108,7 +108,7 @@ fn push_heads_again(out: &mut String, y: u128, workers: u32) -> Result<(), Alloc
     Ok(())
 }
 
-/// How wide a picture of rows is.
+/// Returns how wide a picture of rows is.
 pub(crate) fn rows_width(workers: u32) -> u128
     ensures { result ≡ rows_width workers }
 {
@@ -127,7 +127,7 @@ fn push_ruler(out: &mut String, workers: u32, y: u128, number: usize) -> Result<
     push_heads_again(out, y, workers)
 }
 
-/// Appends the ruler below the row with this number, where it has one.
+/// Appends the ruler below the row with this number, if it has one.
 fn push_ruler_below(
     out: &mut String,
     workers: u32,
@@ -167,7 +167,7 @@ fn goes(worker: u32, transition: &Transition) -> bool
     transition.worker == worker && transition.gone
 }
 
-/// How many of these transitions come before the one after which the worker is gone.
+/// Returns how many of these transitions come before the one after which the worker is gone.
 pub(crate) fn until_gone(worker: u32, rows: &[Transition]) -> usize
     ensures value { result ≡ position_or_len (λ s. (s.worker == worker) && s.gone) rows.now }
     ensures few { result ≤ length rows.now }

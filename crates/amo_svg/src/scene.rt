@@ -1,9 +1,9 @@
-//! What a picture is drawn of.
+//! The content of a picture.
 use amo_plan::Plan;
 use amo_trace::Transition;
 use amo_world::World;
 
-/// What a picture is drawn of.
+/// The run that a picture shows, and the numbers that it needs.
 #[derive(Clone, Copy)]
 pub(crate) struct Scene<'a> {
     /// The plan.

@@ -1,4 +1,4 @@
-//! Which jobs nobody has claimed in a world.
+//! The jobs that nobody has claimed in a world.
 ghost use Rattle.std.specs.Prelude.{◌≡◌, not, IfOk};
 ghost use Rattle.amo_sets.specs.Sets.{has};
 ghost use Rattle.amo_givens.specs.Givens.{IsJob};
@@ -16,7 +16,7 @@ fn is_unclaimed(world: &World, job: u32) -> bool
     world.is_unclaimed(job)
 }
 
-/// The jobs that nobody has claimed, in rising order. The only error is out of memory.
+/// Returns the jobs that nobody has claimed, in rising order. Fails if there was no memory.
 pub(crate) fn unclaimed_jobs(alloc: Global, world: &World) -> Result<Vec<u32>, AllocError>
     ensures { IfOk result (λ v. v.items ≡ unclaimed_jobs world.now.givens.jobs world.now.world.history) }
 {

@@ -7,13 +7,13 @@ ghost use Rattle.amo_svg.specs.Wording.{fixed_text, rows_key, jobs_key};
 pub(crate) enum Wording {
     /// How each picture begins, up to its size.
     SvgOpen,
-    /// Its title, and how what a reader is told begins who doesn't see it.
+    /// Its title, and the beginning of the description for a reader that doesn't see it.
     Title,
-    /// What else such a reader is told.
+    /// The rest of the description.
     More,
     /// The colours.
     LightStyle,
-    /// The colours for a reader who wants a dark ground.
+    /// The colours for a reader that wants a dark ground.
     DarkStyle,
     /// The key of rows: lanes and discs,
     LanesKey,
@@ -35,7 +35,7 @@ pub(crate) enum Wording {
     FreeTitle,
 }
 
-/// The text.
+/// Returns the text.
 #[tactic(auto, unfolding(crate::specs::Wording::fixed_text))]
 pub(crate) fn fixed_text(wording: Wording) -> &'static str
     ensures { result.now ≡ fixed_text wording }
@@ -69,7 +69,7 @@ pub(crate) fn fixed_text(wording: Wording) -> &'static str
     }
 }
 
-/// The lines of what the marks say in a picture of rows.
+/// Returns the lines on the marks in a picture of rows.
 pub(crate) fn rows_key() -> [Wording; 5]
     ensures { result ≡ rows_key }
 {
@@ -82,7 +82,7 @@ pub(crate) fn rows_key() -> [Wording; 5]
     ]
 }
 
-/// Those in a picture of jobs.
+/// Returns the lines on the marks in a picture of jobs.
 pub(crate) fn jobs_key() -> [Wording; 3]
     ensures { result ≡ jobs_key }
 {

@@ -20,7 +20,8 @@ use Rattle.amo_kk.proofs.Kept.{noted_length, others_room}
 use Rattle.amo_trace.specs.Transitions.{has_chosen, job_of}
 use Rattle.amo_trace.specs.Attempts.{has_met_by, looks_on}
 
--- what holds between steps: the job to be announced is open, and in an attempt the job isn't open just where it was met
+-- an invariant between steps: the job to be announced is open, and in an attempt the job isn't open
+-- exactly if it was met
 abbrev pub Stands : Bool → List ℕ → List ℕ → Phase → Type 0
 Stands met known tried (Announcing j) = (not (has known j) && not (has tried j)) ≡ true
 Stands met known tried (Trying j q) = not (not (has known j) && not (has tried j)) ≡ met
@@ -40,7 +41,7 @@ Decides met (Holding j) = ⊥
 Decides met Over = met ≡ true
 Decides met Left = ⊥
 
--- so it has failed just where the job was met
+-- so it has failed exactly if the job was met
 pub chosen_if_met : (met : Bool) (phase : Phase) → Decides met phase → looks_on phase ≡ false → has_chosen phase ≡ met
 chosen_if_met met (Announcing j) h over = sym h
 chosen_if_met met (Trying j q) h over = absurd (true≢false over)
@@ -86,7 +87,7 @@ module _ (g : Givens) (p : ℕ) (o : IsWorker g p) where
   chooses met x few = choice_cases g p x (λ y. Stands met y.known y.tried y.phase) (λ _. tt)
       (λ many. let found = choice_finds g p x o few many in ap (λ b. not b && true) found.2)
 
-  -- it is made where a load has shown that the job isn't open
+  -- it is made if a load has shown that the job isn't open
   abbrev Ends : Bool → Record → Type 0
   Ends met y = Stands met y.known y.tried y.phase × Decides met y.phase
 

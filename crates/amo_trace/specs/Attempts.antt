@@ -1,4 +1,4 @@
--- What a worker has loaded in its attempt.
+-- The jobs that a worker has loaded in its attempt.
 use Rattle.std.specs.Prelude.{ℕ, Bool, true, false, ◌||◌, List, [], ◌∷◌, ◌==◌, if◌then◌else◌}
 use Rattle.amo_kk.specs.declared.phase.Phase.{Phase}
 use Rattle.amo_kk.specs.declared.phase.Phase.TheVariants.{Trying, Reading}

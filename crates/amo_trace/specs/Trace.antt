@@ -59,7 +59,7 @@ act_words p Stops = codes "stops"
 act_words p Stays = codes "stays"
 act_words p Idles = codes "idles"
 
--- what it comes to, after a space, where it comes to more than the act says
+-- the further effect, after a space, if the act has an effect that its own words don't have
 unfoldable pub fact_words : Fact → List ℕ
 fact_words Plain = []
 fact_words (Tried v) = codes " tried " ++ decimal v
@@ -68,7 +68,7 @@ fact_words (Failed j) = codes " failed " ++ decimal j
 fact_words (Claimed j) = codes " claimed " ++ decimal j
 fact_words (Done j) = codes " done " ++ decimal j
 
--- where a worker stands that isn't stopped
+-- the state of a worker that isn't stopped
 unfoldable pub phase_words : Phase → List ℕ
 phase_words (Announcing j) = codes "announcing " ++ decimal j
 phase_words (Trying j q) = codes "trying " ++ decimal j ++ codes " at " ++ decimal q
@@ -78,7 +78,7 @@ phase_words (Holding j) = codes "holding " ++ decimal j
 phase_words Over = codes "ended"
 phase_words Left = codes "left"
 
--- where a worker stands: it is halted where it is gone in a phase in which it would go on
+-- the state of a worker: it is halted if it is gone in a phase in which it would go on
 abbrev pub state_words : Phase → Bool → List ℕ
 state_words phase gone = if gone && not (wants_nothing phase) then codes "halted" else phase_words phase
 

@@ -20,7 +20,7 @@ use Rattle.amo_trace.specs.declared.transition.Fact.{Fact}
 use Rattle.amo_trace.specs.declared.transition.Fact.TheVariants.{Plain, Tried, Known, Failed, Claimed, Done}
 use Rattle.amo_trace.specs.declared.transition.Transition.{Transition}
 
--- what the worker of a move does where it isn't gone: a turn loads or stores what is wanted
+-- the act of a move's worker if it isn't gone: a turn loads or stores what is wanted
 abbrev pub act_here : World → Move → Act
 act_here w (Turn p) = Turned (want (process w p).local) (loaded_value w (want (process w p).local))
 act_here w (Halt p) = Stops
@@ -62,7 +62,7 @@ transitions g w i (m ∷ ms) = if all_gone g w then [] else transition_of g w i 
 abbrev pub transitions_of : PlanSeen → List Transition
 transitions_of p = transitions p.givens (opening_world p.givens) 1 (moves_of p)
 
--- the job of an attempt or in a worker's hand, or 0 where there is none
+-- the job of an attempt or in a worker's hand, or 0 without a job
 abbrev pub job_of : Phase → ℕ
 job_of (Announcing j) = j
 job_of (Trying j q) = j
@@ -87,7 +87,7 @@ has_chosen phase = false
 abbrev pub fails : Transition → Bool
 fails s = loads s.act && has_chosen s.after
 
--- what a load or store comes to where the attempt hasn't failed: v is what is loaded
+-- the further effect of a load or store if the attempt hasn't failed: v is the value that is loaded
 abbrev pub fact_of_want : Want → ℕ → Fact
 fact_of_want (LoadNext q) v = if v == 0 then Plain else Tried v
 fact_of_want (LoadDone q k) v = if v == 0 then Plain else Known v

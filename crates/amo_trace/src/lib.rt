@@ -1,6 +1,11 @@
-//! What each move of a plan's run does, and the text that prints the moves, the trace. Start with
-//! `transitions_of`. The module `laws` has the theorem over these transitions: when an attempt
-//! fails.
+//! The trace of a plan's run: the effect of each move, and the text that prints the moves.
+//!
+//! Start at [`transitions_of`]. The module [`laws`] has the theorem on these transitions: when an
+//! attempt fails.
+//!
+//! | here | in the glossary |
+//! |---|---|
+//! | p | a worker |
 #![tactic(auto)]
 
 pub mod laws;

@@ -10,6 +10,10 @@ use amo_world::World;
 use std::alloc::AllocError;
 
 /// Appends the name of a worker's announcement.
+///
+/// # Errors
+///
+/// `AllocError` if there was no memory.
 #[tactic(auto, unfolding(crate::specs::Trace::next_word))]
 pub fn push_next(out: &mut String, worker: u32) -> Result<(), AllocError>
     ensures { OnOk result (string_bytes out.new ≡ string_bytes out.old ++ next_word worker) }
@@ -26,6 +30,10 @@ fn push_claim(out: &mut String, worker: u32) -> Result<(), AllocError>
 }
 
 /// Appends the name of a place in a worker's row.
+///
+/// # Errors
+///
+/// `AllocError` if there was no memory.
 #[tactic(auto, unfolding(crate::specs::Trace::done_word))]
 pub fn push_done(out: &mut String, worker: u32, place: u32) -> Result<(), AllocError>
     ensures { OnOk result (string_bytes out.new ≡ string_bytes out.old ++ done_word worker place) }
@@ -33,7 +41,11 @@ pub fn push_done(out: &mut String, worker: u32, place: u32) -> Result<(), AllocE
     write!(out, "done[{worker}][{place}]")
 }
 
-/// Appends what a word has.
+/// Appends the value of a word.
+///
+/// # Errors
+///
+/// `AllocError` if there was no memory.
 #[tactic(auto, unfolding(crate::specs::Trace::equals))]
 pub fn push_equals(out: &mut String, value: u32) -> Result<(), AllocError>
     ensures { OnOk result (string_bytes out.new ≡ string_bytes out.old ++ equals value) }
@@ -56,7 +68,7 @@ fn push_wanted_word(out: &mut String, worker: u32, want: Want) -> Result<(), All
     }
 }
 
-/// Appends what a worker stores, or what it loads, which gives this value.
+/// Appends the store of a worker, or its load, which gives this value.
 #[tactic(auto, unfolding(crate::specs::Trace::want_words, crate::specs::Trace::wanted_word))]
 fn push_want(out: &mut String, worker: u32, want: Want, value: u32) -> Result<(), AllocError>
     ensures { OnOk result (string_bytes out.new ≡ string_bytes out.old ++ want_words worker want value) }
@@ -76,7 +88,7 @@ fn push_want(out: &mut String, worker: u32, want: Want, value: u32) -> Result<()
     }
 }
 
-/// Appends what a worker does.
+/// Appends the act of a worker.
 fn push_act(out: &mut String, worker: u32, act: Act) -> Result<(), AllocError>
     ensures { OnOk result (string_bytes out.new ≡ string_bytes out.old ++ act_words worker act) }
 {
@@ -89,7 +101,7 @@ fn push_act(out: &mut String, worker: u32, act: Act) -> Result<(), AllocError>
     }
 }
 
-/// Appends what a transition comes to.
+/// Appends the further effect of a transition.
 #[tactic(auto, unfolding(crate::specs::Trace::fact_words))]
 fn push_fact(out: &mut String, fact: Fact) -> Result<(), AllocError>
     ensures { OnOk result (string_bytes out.new ≡ string_bytes out.old ++ fact_words fact) }
@@ -104,7 +116,7 @@ fn push_fact(out: &mut String, fact: Fact) -> Result<(), AllocError>
     }
 }
 
-/// Appends where a worker stands that isn't stopped.
+/// Appends the state of a worker that isn't stopped.
 #[tactic(auto, unfolding(crate::specs::Trace::phase_words))]
 fn push_phase(out: &mut String, phase: Phase) -> Result<(), AllocError>
     ensures { OnOk result (string_bytes out.new ≡ string_bytes out.old ++ phase_words phase) }
@@ -120,7 +132,7 @@ fn push_phase(out: &mut String, phase: Phase) -> Result<(), AllocError>
     }
 }
 
-/// Appends where a worker stands, given whether it is gone.
+/// Appends the state of a worker, which is gone or isn't.
 fn push_state(out: &mut String, phase: Phase, gone: bool) -> Result<(), AllocError>
     ensures { OnOk result (string_bytes out.new ≡ string_bytes out.old ++ state_words phase gone) }
 {
@@ -141,7 +153,11 @@ fn push_opening(out: &mut String, world: &World, worker: u32) -> Result<(), Allo
     out.push_str("\n")
 }
 
-/// Appends such a line for each worker.
+/// Appends the opening line of each worker.
+///
+/// # Errors
+///
+/// `AllocError` if there was no memory.
 pub fn push_openings(out: &mut String, world: &World) -> Result<(), AllocError>
     ensures { OnOk result (string_bytes out.new ≡ string_bytes out.old ++ opening_lines world.now.world world.now.givens.workers) }
 {
@@ -152,6 +168,10 @@ pub fn push_openings(out: &mut String, world: &World) -> Result<(), AllocError>
 }
 
 /// Appends the line of a transition, without its end.
+///
+/// # Errors
+///
+/// `AllocError` if there was no memory.
 #[tactic(auto, unfolding(crate::specs::Trace::transition_words))]
 pub fn push_transition(out: &mut String, transition: &Transition) -> Result<(), AllocError>
     ensures { OnOk result (string_bytes out.new ≡ string_bytes out.old ++ transition_words transition.now) }
@@ -166,6 +186,10 @@ pub fn push_transition(out: &mut String, transition: &Transition) -> Result<(), 
 }
 
 /// Appends a line for each transition.
+///
+/// # Errors
+///
+/// `AllocError` if there was no memory.
 pub fn push_transitions(out: &mut String, transitions: &[Transition]) -> Result<(), AllocError>
     ensures { OnOk result (string_bytes out.new ≡ string_bytes out.old ++ transition_lines transitions.now) }
 {

@@ -10,8 +10,12 @@ use amo_render::push_first_line;
 use amo_world::World;
 use std::alloc::{AllocError, Global};
 
-/// The trace of a plan: its numbers, where each worker opens, and a line for each move of its
-/// schedule and its rounds, until all workers are gone. The only error is out of memory.
+/// Returns the trace of a plan: its numbers, the opening state of each worker, and a line for each
+/// move. The moves are those of its schedule and its rounds, until all workers are gone.
+///
+/// # Errors
+///
+/// `AllocError` if there was no memory.
 #[tactic(auto, unfolding(crate::specs::Trace::trace_of))]
 pub fn trace_text(alloc: Global, plan: &Plan) -> Result<String, AllocError>
     ensures { IfOk result (λ s. string_bytes s ≡ trace_of (plan_seen plan.now)) }

@@ -4,7 +4,7 @@ ghost use Rattle.amo_trace.specs.Transitions.{loads, fails, job_of, fact_of_want
 
 use amo_kk::{Phase, Want};
 
-/// What a worker does in one move.
+/// The act of a worker in one move.
 #[derive(Clone, Copy, Debug, PartialEq, Eq)]
 pub enum Act {
     /// It has a turn: this load or store, and the value that it loads, or 0 at a store.
@@ -26,17 +26,17 @@ pub struct Transition {
     pub number: usize,
     /// The worker of the move.
     pub worker: u32,
-    /// What it does.
+    /// The act of the worker.
     pub act: Act,
     /// Where it stood before the move.
     pub before: Phase,
     /// Where it stands after the move.
     pub after: Phase,
-    /// Whether it is gone after the move.
+    /// True if the worker is gone after the move.
     pub gone: bool,
 }
 
-/// What a transition comes to, besides its load or store.
+/// The further effect of a transition, besides its load or store.
 #[derive(Clone, Copy, Debug, PartialEq, Eq)]
 pub enum Fact {
     /// Nothing more.
@@ -53,7 +53,7 @@ pub enum Fact {
     Done(u32),
 }
 
-/// The job of an attempt, or in a worker's hand; 0 where it has none.
+/// Returns the job of an attempt, or the one in a worker's hand. It is 0 without a job.
 pub fn job_of(phase: Phase) -> u32
     ensures { result ≡ job_of phase }
 {
@@ -77,7 +77,7 @@ fn loads(act: Act) -> bool
     }
 }
 
-/// What a load or store comes to, where its attempt hasn't failed.
+/// Returns the further effect of a load or store whose attempt hasn't failed.
 fn fact_of_want(want: Want, value: u32) -> Fact
     ensures { result ≡ fact_of_want want value }
 {
@@ -92,7 +92,7 @@ fn fact_of_want(want: Want, value: u32) -> Fact
     }
 }
 
-/// What an act comes to, where its attempt hasn't failed.
+/// Returns the further effect of an act whose attempt hasn't failed.
 fn fact_of_act(act: Act) -> Fact
     ensures { result ≡ fact_of_act act }
 {
@@ -102,7 +102,7 @@ fn fact_of_act(act: Act) -> Fact
     }
 }
 
-/// The transition at a place.
+/// Returns the transition at a place.
 pub fn transition_at(transitions: &[Transition], place: usize) -> Option<Transition>
     ensures { result ≡ slice_get transitions.now place }
 {
@@ -121,7 +121,7 @@ impl Transition {
         loads(self.act) && matches!(self.after, Phase::Announcing(_) | Phase::Over)
     }
 
-    /// What it comes to, besides its load or store.
+    /// Returns the further effect, besides the load or store.
     pub fn fact(&self) -> Fact
         ensures { result ≡ fact_of self.now }
     {

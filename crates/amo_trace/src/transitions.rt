@@ -25,7 +25,7 @@ fn all_gone(world: &World) -> bool
     true
 }
 
-/// What the worker of a move does, where it isn't gone.
+/// Returns the act of a move's worker if it isn't gone.
 fn act_here(world: &World, one: Move) -> Act
     requires { IsWorker world.now.givens (worker_of one) }
     ensures { result ≡ act_here world.now.world one }
@@ -38,7 +38,7 @@ fn act_here(world: &World, one: Move) -> Act
     }
 }
 
-/// What the worker of a move does.
+/// Returns the act of a move's worker.
 fn act_of(world: &World, one: Move) -> Act
     requires { IsWorker world.now.givens (worker_of one) }
     ensures { result ≡ act_of world.now.world one }
@@ -71,8 +71,8 @@ fn make_move(world: &mut World, number: usize, one: Move) -> Transition
     }
 }
 
-/// Makes these moves until all workers are gone, from when on moves change nothing, and answers
-/// their transitions. The only error is out of memory.
+/// Makes these moves until all workers are gone, since moves change nothing after that. Returns
+/// their transitions. Fails if there was no memory.
 fn make_moves(
     alloc: Global,
     world: &mut World,
@@ -103,7 +103,7 @@ fn push_round(moves: &mut Vec<Move>, workers: u32) -> Result<(), AllocError>
     Ok(())
 }
 
-/// All moves of a plan: its schedule, then its rounds. The only error is out of memory.
+/// Returns all moves of a plan: its schedule, then its rounds. Fails if there was no memory.
 fn moves_of(alloc: Global, plan: &Plan) -> Result<Vec<Move>, AllocError>
     ensures { IfOk result (λ v. v.items ≡ moves_of (plan_seen plan.now)) }
 {
@@ -124,7 +124,11 @@ pub struct TracedRun {
     pub world: World,
 }
 
-/// Makes the moves of a plan, until all workers are gone. The only error is out of memory.
+/// Makes the moves of a plan, until all workers are gone.
+///
+/// # Errors
+///
+/// `AllocError` if there was no memory.
 pub fn run_of(alloc: Global, plan: &Plan) -> Result<TracedRun, AllocError>
     ensures transitions { IfOk result (λ r. r.transitions.items ≡ transitions_of (plan_seen plan.now)) }
     ensures world { IfOk result (λ r. r.world ≡ record { givens = (plan_seen plan.now).givens; world = plan_world (plan_seen plan.now) }) }
@@ -135,8 +139,12 @@ pub fn run_of(alloc: Global, plan: &Plan) -> Result<TracedRun, AllocError>
     Ok(TracedRun { transitions, world })
 }
 
-/// The transitions of a plan: what each move of its schedule and its rounds does, until all workers
-/// are gone. The only error is out of memory.
+/// Returns the transitions of a plan: the effect of each move of its schedule and its rounds, until
+/// all workers are gone.
+///
+/// # Errors
+///
+/// `AllocError` if there was no memory.
 pub fn transitions_of(alloc: Global, plan: &Plan) -> Result<Vec<Transition>, AllocError>
     ensures { IfOk result (λ v. v.items ≡ transitions_of (plan_seen plan.now)) }
 {

@@ -41,7 +41,7 @@ same_attempt a b = (a.worker == b.worker) && ((a.serial == b.serial) && ((a.line
 abbrev pub same_row : AttemptRow → AttemptRow → Bool
 same_row a b = same_attempt a b && (same_outcome a.outcome b.outcome && is a.state b.state)
 
--- the row in a list, unless the list of what was shown begins with the same one
+-- the row in a list, unless the list of the shown rows begins with the same one
 abbrev pub unless_first : List AttemptRow → AttemptRow → List AttemptRow
 unless_first [] row = row ∷ []
 unless_first (old ∷ olds) row = if same_row old row then [] else row ∷ []

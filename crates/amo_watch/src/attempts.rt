@@ -8,8 +8,12 @@ use amo_run_log::{Attempt, Finding, Outcome, is_not_done, is_undone, reopens};
 use amo_status::State;
 use std::alloc::{AllocError, Global};
 
-/// Returns the attempts of this worker's journal, in order, each with how it stands by its records
-/// and by the operators' answers.
+/// Returns the attempts of this worker's journal, in order, each with its status by its records and
+/// by the operators' answers.
+///
+/// # Errors
+///
+/// `AllocError` if there was no memory.
 pub fn attempt_rows(
     alloc: Global,
     findings: &[Finding],

@@ -1,4 +1,4 @@
-//! Which attempts of a journal have changed since they were shown.
+//! The attempts of a journal that have changed since they were shown.
 ghost use Rattle.std.specs.Prelude.{◌≡◌, ◌++◌, drop, IfOk, OnOk};
 ghost use Rattle.amo_status.specs.States.{is, number_of};
 ghost use Rattle.amo_watch.specs.Changes.{changed, kind_of, same_attempt, same_outcome, same_row, unless_first};
@@ -9,8 +9,12 @@ use amo_run_log::Outcome;
 use amo_status::State;
 use std::alloc::{AllocError, Global};
 
-/// Returns the rows, in order, that don't stand among the shown ones at their places. If a reader
-/// puts them at the places of their worker and serial number, it has all rows.
+/// Returns the rows, in order, that the shown rows don't have at their places. If a reader puts
+/// them at the places of their worker and serial number, it has all rows.
+///
+/// # Errors
+///
+/// `AllocError` if there was no memory.
 pub fn changed(
     alloc: Global,
     shown: &[AttemptRow],

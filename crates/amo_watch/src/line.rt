@@ -21,9 +21,13 @@ pub struct Head<'a> {
     pub workers: u64,
 }
 
-/// Returns one JSON object and a line feed: the head, how many lines stand how, and an array for
-/// each of these attempts. An array has worker, serial number, line, when it was begun, the
-/// outcome, the code, when it ended, and how the attempt stands.
+/// Returns one JSON object and a line feed: the head, the number of lines of each status, and an
+/// array for each of these attempts. An array has worker, serial number, line, the time of its
+/// beginning, the outcome, the code, the time of its end, and the attempt's status.
+///
+/// # Errors
+///
+/// `AllocError` if there was no memory.
 pub fn watch_line(
     alloc: Global,
     head: &Head<'_>,

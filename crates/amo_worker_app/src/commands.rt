@@ -1,6 +1,4 @@
 //! The whole program: its commands, its messages, and the statuses with which it ends.
-use crate::damage::show_damage;
-use crate::follow::follow;
 use crate::operator::{carry_out, said_by, said_in};
 use crate::remote::work_by_lines;
 use crate::worker::work;
@@ -10,6 +8,7 @@ use amo_run_dir::{
     Age, Fault, Item, ListSettings, Setting, look_at_folder, look_to_read, look_to_write, open,
     written,
 };
+use amo_run_views::{follow, show_damage};
 use amo_status::{Counts, Said, status_text};
 use amo_worker_args::{Misuse, Request, asked};
 use clap::Error;
@@ -148,7 +147,7 @@ fn tell_misuse(rt: HostRuntime, misuse: &Misuse) -> u8 {
     64
 }
 
-/// Prints the whole help that was asked for, or what is wrong, and returns the status.
+/// Prints the help that was requested, or the fault of the words, and returns the status.
 fn tell_words(rt: HostRuntime, error: &Error) -> u8 {
     let mut shown = error.print(&rt);
     if error.exit_code() != 0 {
@@ -166,7 +165,7 @@ fn tell_words(rt: HostRuntime, error: &Error) -> u8 {
     }
 }
 
-/// Does what is asked for.
+/// Does a request.
 fn done(rt: HostRuntime, setting: &Setting<'_>, request: Request<'_>) -> Result<(), End> {
     match request {
         Request::Door(jobs, into) => ended(open(rt, setting, &jobs, into)),

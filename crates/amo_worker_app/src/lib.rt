@@ -1,10 +1,9 @@
-//! The program `amo_worker`: its commands, and how each of them ends. Start with `serve`, or with
-//! the module `worker` for the life of a worker.
+//! The program `amo_worker`: its commands, and the end of each of them.
+//!
+//! Start at [`serve`], or at the module `worker` for the life of a worker.
 #![tactic(auto)]
 
 mod commands;
-mod damage;
-mod follow;
 mod operator;
 mod remote;
 mod worker;

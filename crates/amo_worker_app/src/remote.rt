@@ -64,7 +64,7 @@ pub(crate) fn work_by_lines(rt: HostRuntime, asked: ByLines) -> Result<(), Fault
     }
 }
 
-/// What a stop comes to.
+/// Returns the fault of a stop.
 fn fault_of(rt: HostRuntime, stop: Stop, lines: Lines<Streams>) -> Fault {
     let Lines { wire, said } = lines;
     let Streams { fault, .. } = wire;
@@ -80,7 +80,7 @@ fn fault_of(rt: HostRuntime, stop: Stop, lines: Lines<Streams>) -> Fault {
     }
 }
 
-/// The fault of a line that is no answer, or of none.
+/// Returns the fault of an invalid or missing line.
 fn odd(rt: HostRuntime, said: Option<Vec<u8>>) -> Fault {
     match said {
         Some(line) => match shown(rt, &line) {

@@ -106,7 +106,7 @@ fn invalid(process: &Worker<LoggedHost<'_>>) -> Fault {
     }
 }
 
-/// Returns what a stop comes to.
+/// Returns the fault of a stop.
 fn fault_of(
     rt: HostRuntime,
     setting: &Setting<'_>,

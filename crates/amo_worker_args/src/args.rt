@@ -1,4 +1,4 @@
-//! To parse the command line: what is asked for.
+//! Parsing of the command line.
 ghost use Rattle.std.specs.Prelude.{◌≤◌, IfOk};
 
 use crate::by_lines::ByLines;

@@ -1,4 +1,4 @@
-//! Why a worker makes no further call, and whether it may still append what it owes.
+//! The reasons why a worker makes no further call, and whether it may still append what it owes.
 use amo_host::{LogFile, RunLock};
 use amo_run_files::Why;
 

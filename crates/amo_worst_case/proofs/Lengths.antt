@@ -49,7 +49,7 @@ worst_length g = go (nat_lt g.jobs g.beta)
         let turns : length (replicate (lone_turns g) (Turn 1)) ≡ lone_turns g = length-replicate (lone_turns g) (Turn 1) in
         omega arith
 
--- and one where there are jobs enough
+-- and one if there are enough jobs
 pub some_turns : (g : Givens) → g.beta ≤ g.jobs → 1 ≤ lone_turns g
 some_turns g enough = product (fewest g) (2 * g.workers + 1) (rw (le-ltb g.jobs g.beta enough) (some (bound g) (bound g == 0) refl)) (omega arith)
   where

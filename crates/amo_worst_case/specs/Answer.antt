@@ -1,4 +1,4 @@
--- What is written of a plan.
+-- The text for a plan.
 use Rattle.std.specs.Prelude.{ℕ, ◌≤◌, List, ◌++◌, length, replicate, nat_lt, if◌then◌else◌, codes}
 use Rattle.std.specs.Fmt.{decimal}
 use Rattle.amo_plan.specs.declared.limits.TheConstants.{MOST_BYTES, MOST_MOVES, USUAL_BUDGET}
@@ -6,16 +6,16 @@ use Rattle.amo_plan.specs.Plan.{PlanSeen}
 use Rattle.amo_bounds.specs.Worst.{worst_moves}
 use Rattle.amo_worst_case.specs.Text.{plan_text}
 
--- what stands in the place of the text where the schedule would have so many moves, which are too many
+-- the text if the schedule would have so many moves, which are too many
 unfoldable pub too_many_moves : ℕ → List ℕ
 too_many_moves moves = codes "refused\nthe schedule would have " ++ (decimal moves ++ (codes " moves, and a plan has at most " ++ (decimal MOST_MOVES ++ codes "\n")))
 
--- and where the text, with so many moves, would have so many bytes, which are too many
+-- and the text if it, with so many moves, would have so many bytes, which are too many
 unfoldable pub too_many_bytes : ℕ → ℕ → List ℕ
 too_many_bytes moves bytes =
     codes "refused\nthe text would have " ++ (decimal bytes ++ (codes " bytes, with " ++ (decimal moves ++ (codes " moves, and a plan has at most " ++ (decimal MOST_BYTES ++ codes "\n")))))
 
--- the text of the plan with the worst schedule, where it is no larger than a plan may be
+-- the text of the plan with the worst schedule, if it is no larger than a plan may be
 abbrev pub worst_of : PlanSeen → List ℕ
 worst_of p =
     if nat_lt MOST_MOVES (length (worst_moves p.givens))

@@ -9,6 +9,6 @@ abbrev pub stuck_words : ℕ → List ℕ
 stuck_words zero = []
 stuck_words (suc k) = stuck_words k ++ (decimal (k + 2) ++ (codes " x" ++ (decimal (k + 2) ++ codes " ")))
 
--- and then the turns of worker 1, as `1*14`; no words, where all are over from birth
+-- and then the turns of worker 1, as `1*14`; no words if all are over from birth
 unfoldable pub worst_schedule : Givens → List ℕ
 worst_schedule g = if nat_lt g.jobs g.beta then [] else stuck_words (g.workers - 1) ++ (codes "1*" ++ decimal (lone_turns g))

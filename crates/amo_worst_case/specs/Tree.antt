@@ -24,13 +24,13 @@ job_items [] tasks = no_items
 job_items (name ∷ names) [] = no_items
 job_items (name ∷ names) (task ∷ tasks) = item (table (job_tree name task)) (job_items names tasks)
 
--- the jobs, where there are some, before other keys
+-- the jobs, if there are some, before other keys
 abbrev pub with_jobs : List (List ℕ) → List Task → Members → Members
 with_jobs [] tasks ms = ms
 with_jobs (name ∷ names) [] ms = ms
 with_jobs (name ∷ names) (task ∷ tasks) ms = member (codes "job") (array (item (table (job_tree name task)) (job_items names tasks))) ms
 
--- the block, where it is said
+-- the block, if it is given
 abbrev pub with_block : Bool → ℕ → Members → Members
 with_block true block ms = ms
 with_block false block ms = member (codes "block") (integer (pos block)) ms
@@ -40,7 +40,7 @@ abbrev pub last_keys : ℕ → Givens → Members
 last_keys version g =
     member (codes "schedule") (string (worst_schedule g)) (member (codes "version") (integer (pos version)) (member (codes "workers") (integer (pos g.workers)) no_members))
 
--- the tree of the plan, in which the block is left out if the test says so
+-- the tree of the plan, without the block if the test is true
 abbrev pub tree_of : Bool → PlanSeen → Members
 tree_of left_out p = member (codes "beta") (integer (pos p.givens.beta)) (with_block left_out p.block (with_jobs p.names p.tasks (last_keys p.version p.givens)))
 

@@ -1,4 +1,4 @@
-//! What is written of a plan.
+//! The text for a plan.
 ghost use Rattle.std.specs.Prelude.{◌≡◌, ◌++◌, Ok, OnOk, IfOk, string_bytes};
 ghost use Rattle.amo_plan.specs.PlanSeen.{plan_seen};
 ghost use Rattle.amo_worst_case.specs.Answer.{too_many_bytes, too_many_moves, worst_of};
@@ -33,10 +33,14 @@ fn push_too_many_bytes(out: &mut String, moves: u32, bytes: usize) -> Result<(),
     )
 }
 
-/// The text of the plan that has the jobs, workers and threshold of this one and a schedule after
-/// which just the fewest jobs are performed; or a line that says `refused`, and one that says why,
-/// where it would be larger than a plan may be. Where it is not refused, it is read as that plan.
-/// The only error is out of memory.
+/// Returns the text of the plan that has the jobs, workers and threshold of this one and a schedule
+/// after which just the fewest jobs are performed. If that would be larger than a plan may be, it
+/// returns a line that says `refused`, and one with the reason. Otherwise the text is read as that
+/// plan.
+///
+/// # Errors
+///
+/// `AllocError` if there was no memory.
 pub fn worst_text(alloc: Global, plan: &Plan) -> Result<String, AllocError>
     ensures { IfOk result (λ s. string_bytes s ≡ worst_of (plan_seen plan.now)) }
 {
@@ -67,7 +71,7 @@ impl PlanText for Worst {
 
     ghost made = { λ _ plan. Ok (worst_of plan) };
 
-    /// The text. The only error is out of memory.
+    /// Returns the text. Fails if there was no memory.
     fn make(&self, alloc: Global, plan: &Plan) -> Result<String, ReplayFault> {
         Ok(worst_text(alloc, plan)?)
     }

@@ -1,12 +1,12 @@
-//! How many jobs are done at least, and how many moves it takes to do no more.
+//! The fewest jobs that are done, and the moves after which no more are done.
 ghost use Rattle.std.specs.Prelude.{◌≡◌, length};
 ghost use Rattle.amo_bounds.specs.Fewest.{fewest};
 ghost use Rattle.amo_bounds.specs.Worst.{lone_turns, worst_moves};
 
 use amo_givens::Givens;
 
-/// How many jobs are done at least, wherever a worker has ended: none where there are fewer jobs
-/// than the threshold, else the bound, but at least one.
+/// Returns the fewest jobs that are done once a worker has ended. It is 0 if there are fewer jobs
+/// than the threshold, else the bound, but at least 1.
 pub fn fewest(givens: Givens) -> u32
     ensures { result ≡ fewest givens }
 {
@@ -17,7 +17,7 @@ pub fn fewest(givens: Givens) -> u32
     if bound == 0 { 1 } else { bound }
 }
 
-/// How many turns worker 1 takes beside the others, once they are halted: at most 135,168.
+/// Returns how many turns worker 1 takes beside the others, once they are halted: at most 135,168.
 #[tactic(auto, using(crate::proofs::Lengths::few_turns))]
 pub(crate) fn lone_turns(givens: Givens) -> u32
     ensures { result ≡ lone_turns givens }
@@ -25,7 +25,7 @@ pub(crate) fn lone_turns(givens: Givens) -> u32
     fewest(givens) * (2 * givens.workers + 1)
 }
 
-/// How many moves the worst schedule has.
+/// Returns how many moves the worst schedule has.
 #[tactic(auto, using(crate::proofs::Lengths::few_turns, crate::proofs::Lengths::worst_length))]
 pub(crate) fn count_moves(givens: Givens) -> u32
     ensures { result ≡ length (worst_moves givens) }

@@ -17,33 +17,33 @@ ghost use Rattle.amo_worst_case.specs.Tree.{are_integers, tree_of};
 
 use amo_bounds::laws::worst_moves_are_worst;
 
-/// The moves of the plan that is written come to an end at which just the fewest jobs are
-/// performed: all workers are gone then, and each that wasn't stopped has ended. That no moves
-/// after which all are gone, none has left and not every worker was stopped leave fewer, is
-/// `effectiveness_is_fewest` of `amo_bounds`.
+/// States that the moves of the plan that is written come to an end at which just the fewest jobs
+/// are performed. All workers are gone then, and each that wasn't stopped has ended.
+/// `effectiveness_is_fewest` of `amo_bounds` states that no moves leave fewer, if all workers are
+/// gone after them, none has left and not every worker was stopped.
 pub fn written_moves_are_worst()
     ensures { (p : PlanSeen) → IsWorst p.givens (worst_plan p).moves }
 {
     worst_moves_are_worst();
 }
 
-/// The schedule that is written, where it has no more moves than a plan may have, is read as these
-/// moves, in both versions.
+/// States that the schedule that is written is read as these moves, in both versions, if it has no
+/// more moves than a plan may have.
 pub fn schedules_say_the_worst_moves()
     ensures { (version : ℕ) (g : Givens) → length (worst_moves g) ≤ MOST_MOVES
         → read_schedule version g.workers (worst_schedule g) ≡ Ok (worst_moves g) }
 {}
 
-/// The text is a TOML document of the tree that the definition names, where each number that a job
-/// adds is an integer of TOML, as it is in each plan that was read.
+/// States that the text is a TOML document of the tree that the definition names. It assumes that
+/// each number that a job adds is an integer of TOML, as in each plan that was read.
 pub fn written_texts_are_of_their_trees()
     ensures { (p : PlanSeen) → p.version < 2 ^ 63 → p.block < 2 ^ 63 → list_all are_integers p.tasks ≡ true
         → parse_document (plan_text p) ≡ Some (tree_of (p.version == 1) p) }
 {}
 
-/// Where it is no larger than a plan may be, the text that is written of a plan that was read is
-/// read as that plan with the worst moves, without rounds and with the usual budgets. As all texts
-/// of the program it is UTF-8.
+/// States that the text that is written of a plan that was read is read as that plan with the worst
+/// moves, without rounds and with the usual budgets. It assumes that the text is no larger than a
+/// plan may be. The text is UTF-8, as all texts of the program.
 pub fn written_plans_are_read()
     ensures { (bytes : List ℕ) (p : PlanSeen) → plan_of bytes ≡ Ok p → list_all are_integers p.tasks ≡ true → IsSmall p
         → IsUtf8 (plan_text p) → plan_of (plan_text p) ≡ Ok (worst_plan p) }

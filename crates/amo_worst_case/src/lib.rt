@@ -1,6 +1,8 @@
 //! The plan that has the jobs of another and leaves as few of them performed as any schedule and
-//! stops can. The module `laws` has the theorems over it: that its moves are such moves, and that
-//! its schedule says them.
+//! stops can.
+//!
+//! Start at [`worst_text`]. The module [`laws`] has the theorems: the moves of the plan are such
+//! moves, and its schedule is read as these moves.
 #![tactic(auto)]
 
 mod answer;

@@ -18,8 +18,12 @@ fn push_stuck(out: &mut String, others: u32) -> Result<(), AllocError>
     Ok(())
 }
 
-/// A schedule of these givens, in the words of a plan, after which all workers are gone and just
-/// the fewest jobs are performed. The only error is out of memory.
+/// Returns a schedule of these givens, in the words of a plan, after which all workers are gone and
+/// just the fewest jobs are performed.
+///
+/// # Errors
+///
+/// `AllocError` if there was no memory.
 #[tactic(auto, unfolding(crate::specs::Schedule::worst_schedule))]
 pub fn worst_schedule(alloc: Global, givens: Givens) -> Result<String, AllocError>
     ensures { IfOk result (λ s. string_bytes s ≡ worst_schedule givens) }

@@ -46,8 +46,8 @@ fn push_head(
     )
 }
 
-/// The text of the plan that has the jobs of this one and the worst schedule. The only error is out
-/// of memory.
+/// Returns the text of the plan that has the jobs of this one and the worst schedule. Fails if
+/// there was no memory.
 pub(crate) fn plan_text(alloc: Global, plan: &Plan) -> Result<String, AllocError>
     ensures { IfOk result (λ s. string_bytes s ≡ plan_text (plan_seen plan.now)) }
 {

@@ -1,8 +1,8 @@
-//! A payment.
+//! Payments.
 ghost use Rattle.std.specs.Prelude.{◌≡◌};
 
-/// An amount that goes to an account. It has no copy, and only a line of a day makes one: who holds
-/// it is the only one who can make it.
+/// An amount that goes to an account. It has no copy, and only a line of a day makes one. So only
+/// its holder can make the payment.
 #[derive(Debug, PartialEq, Drop)]
 pub(crate) struct Payment {
     id: u64,
@@ -11,28 +11,28 @@ pub(crate) struct Payment {
 }
 
 impl Payment {
-    /// The payment at this place of a day's list, from 1.
+    /// Returns the payment at this place of a day's list, from 1.
     pub(super) fn new(id: u64, account: u64, cents: u64) -> Payment
         ensures { result ≡ record { id = id; account = account; cents = cents } }
     {
         Payment { id, account, cents }
     }
 
-    /// Its place in the day's list, from 1. The journal names it by this number.
+    /// Returns its place in the day's list, from 1. The journal names it by this number.
     pub(crate) fn id(&self) -> u64
         ensures { result ≡ self.now.id }
     {
         self.id
     }
 
-    /// The account that gets it.
+    /// Returns the account that gets it.
     pub(crate) fn account(&self) -> u64
         ensures { result ≡ self.now.account }
     {
         self.account
     }
 
-    /// How much, in hundredths.
+    /// Returns the amount, in hundredths.
     pub(crate) fn cents(&self) -> u64
         ensures { result ≡ self.now.cents }
     {

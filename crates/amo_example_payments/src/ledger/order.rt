@@ -1,5 +1,5 @@
-//! What a payment passes through: its intent stands in the journal, it is given to the bank, and it
-//! has its receipt.
+//! The three states of a payment: its intent is in the journal, it is given to the bank, and it has
+//! its receipt.
 ghost use Rattle.std.specs.Prelude.{◌≡◌, IfOk, IfErr, OnOk, OnErr};
 ghost use Rattle.std.specs.Io.KnownBytes.{Appends};
 ghost use Rattle.amo_io.specs.Streams.{AppendsFront};
@@ -10,8 +10,8 @@ use crate::writing::write_text;
 use std::alloc::Global;
 use std::io::Write;
 
-/// A payment whose intent stands in the journal, on the disk. Only such a payment can be given to
-/// the bank.
+/// A payment whose intent is in the journal, on the disk. Only such a payment can be given to the
+/// bank.
 #[derive(Drop)]
 pub(crate) struct IntentToken {
     payment: Payment,
@@ -25,7 +25,7 @@ pub(crate) struct Given {
     serial: u64,
 }
 
-/// What shows that a payment was made: its receipt stands in the journal, on the disk.
+/// The proof that a payment was made: its receipt is in the journal, on the disk.
 #[derive(Debug, PartialEq, Drop)]
 pub(crate) struct Receipt {
     job: u32,
@@ -35,7 +35,7 @@ pub(crate) struct Receipt {
 }
 
 impl IntentToken {
-    /// The payment, whose intent has this serial number in the journal.
+    /// Returns the token of the payment whose intent has this serial number in the journal.
     pub(super) fn new(payment: Payment, serial: u64) -> IntentToken
         ensures { result ≡ record { payment = payment; serial = serial } }
     {
@@ -43,9 +43,12 @@ impl IntentToken {
     }
 
     /// Gives the payment to the bank. A real bank's call stands here: it sends the order, and
-    /// answers once the bank has taken it. In its place a line goes to a writer. Where that fails
-    /// nobody knows whether the bank has all of it, and the payment comes back, never to be given
-    /// again.
+    /// returns once the bank has taken it. Here a line goes to a writer instead.
+    ///
+    /// # Errors
+    ///
+    /// The payment, if the writer fails. Nobody knows then whether the bank has all of it, and the
+    /// payment must never be given again.
     pub(crate) fn give<S: Write>(self, alloc: Global, bank: &mut S) -> Result<Given, Payment>
         ensures whole { OnOk result (Appends (S.contents bank.old) (S.contents bank.new) (order_line self.payment)) }
         ensures front { OnErr result (AppendsFront (S.contents bank.old) (S.contents bank.new) (order_line self.payment)) }
@@ -65,21 +68,21 @@ impl IntentToken {
 }
 
 impl Given {
-    /// The serial number of its intent.
+    /// Returns the serial number of its intent.
     pub(super) fn serial(&self) -> u64
         ensures { result ≡ self.now.serial }
     {
         self.serial
     }
 
-    /// The payment, of which there is no receipt.
+    /// Returns the payment, which has no receipt.
     pub(super) fn back(self) -> Payment
         ensures { result ≡ self.payment }
     {
         self.payment
     }
 
-    /// The receipt of the payment, which was made as this job.
+    /// Returns the receipt of the payment, which was made as this job.
     pub(super) fn receipt(self, job: u32) -> Receipt
         ensures { IsReceiptOf job self.payment result }
     {
@@ -93,7 +96,7 @@ impl Given {
 }
 
 impl Receipt {
-    /// The number of the payment.
+    /// Returns the number of the payment.
     pub(crate) fn id(&self) -> u64
         ensures { result ≡ self.now.id }
     {

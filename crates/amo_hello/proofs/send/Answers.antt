@@ -1,4 +1,5 @@
--- What is sent is what the outcome has as answered, and then what it has as free, in another order.
+-- The jobs that are sent are those that the outcome has as answered, and then those that it has as
+-- free, in another order.
 use Rattle.std.proofs.Common.{◌≡◌, ◌++◌, [], ℕ, List, ◌∷◌, length, arith, map, Result, Ok, Err, IfOk, IfSome, refl, sym, ap, ◌∙◌, subst}
 use Rattle.std.specs.Result.{result_ok}
 use Rattle.std.specs.Vec.Iter.{into_iter_items}

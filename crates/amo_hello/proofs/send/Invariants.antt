@@ -1,3 +1,4 @@
+-- The facts that each pass of a loop of `send` keeps.
 use Rattle.std.proofs.Common.{◌≡◌, ◌++◌, map}
 use Rattle.std.specs.Vec.Iter.{into_iter_items}
 use Rattle.amo_hello.proofs.send.Given as goal

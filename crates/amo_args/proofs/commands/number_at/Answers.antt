@@ -1,3 +1,4 @@
+-- `number_at`: its promises, by the lemmas of Numbers.
 use Rattle.std.proofs.Common.{◌≡◌, ◌∙◌, Some, sym, ap}
 use Rattle.clap.specs.Words.{rows_of, found_of, first_of}
 use Rattle.amo_args.proofs.Numbers.{at_is_decimal}

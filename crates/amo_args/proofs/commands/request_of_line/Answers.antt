@@ -1,3 +1,4 @@
+-- `request_of_line`: its promises, by the lemmas of Lines.
 use Rattle.std.proofs.Common.{◌≡◌, ◌∙◌, ap, map, List, refl, sym, inl, inr}
 use Rattle.std.proofs.lemmas.Bool.{false≢true}
 use Rattle.clap.specs.declared.error.ErrorKind.TheVariants.{OutOfMemory}

@@ -1,3 +1,4 @@
+-- `text_at`: its promises, by the lemmas of WalkLemmas (clap).
 use Rattle.std.proofs.Common.{◌∙◌}
 use Rattle.clap.specs.Words.{found_of}
 use Rattle.clap.proofs.WalkLemmas.{first_value-rows}

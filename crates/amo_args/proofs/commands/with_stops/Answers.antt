@@ -1,3 +1,4 @@
+-- `with_stops`: its promises, directly from definitions and clauses.
 use Rattle.std.proofs.Common.{rules, refl, ap, ap₂, codes, ◌≡◌, ◌∙◌}
 use Rattle.std.proofs.lemmas.Result.{IfOk-weaker}
 use Rattle.clap.specs.Words.{App, app_of, rule_of, with_rule, with_subcommand}

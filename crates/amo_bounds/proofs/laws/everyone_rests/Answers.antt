@@ -1,3 +1,4 @@
+-- `everyone_rests`: its promises, by the lemmas of Rest and Rounds.
 use Rattle.amo_bounds.proofs.Rest.{always_rests, always_gone}
 use Rattle.amo_bounds.proofs.Rounds.{always_ends, always_stays}
 use Rattle.amo_bounds.proofs.laws.everyone_rests.Goals as goal

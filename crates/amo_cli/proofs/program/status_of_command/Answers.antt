@@ -1,3 +1,4 @@
+-- `status_of_command`: its promises, by the lemmas of Endings.
 use Rattle.amo_cli.proofs.Endings.{ends_by}
 use Rattle.amo_cli.proofs.program.status_of_command.Goals as goal
 

@@ -1,3 +1,4 @@
+-- The facts that each pass of a loop of `listed` keeps.
 use Rattle.std.proofs.Common.{◌≡◌, ◌++◌}
 use Rattle.std.specs.Vec.Iter.{into_iter_items}
 use Rattle.amo_cli.proofs.words.listed.Given as goal

@@ -1,3 +1,4 @@
+-- The facts that each pass of a loop of `texts_of` keeps.
 use Rattle.std.proofs.Common.{◌≡◌, map, take, string_bytes}
 use Rattle.amo_commands.proofs.working.texts_of.Given as goal
 

@@ -1,3 +1,4 @@
+-- The facts that each pass of a loop of `put_jobs` keeps.
 use Rattle.std.proofs.Common.{◌≡◌}
 use Rattle.amo_mailbox.specs.Endpoints.{IsOutletOf}
 use Rattle.amo_crew_tests.proofs.queues.put_jobs.Given as goal

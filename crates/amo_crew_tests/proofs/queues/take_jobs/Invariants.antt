@@ -1,3 +1,4 @@
+-- The facts that each pass of a loop of `take_jobs` keeps.
 use Rattle.std.proofs.Common.{◌≡◌}
 use Rattle.amo_mailbox.specs.Endpoints.{IsInletOf}
 use Rattle.amo_crew_tests.proofs.queues.take_jobs.Given as goal

@@ -1,3 +1,4 @@
+-- The facts that each pass of a loop of `ask_pending` keeps.
 use Rattle.std.proofs.Common.{drop}
 use Rattle.amo_driver.specs.Stage.{Asking}
 use Rattle.amo_driver.proofs.past.ask_pending.Given as goal

@@ -1,3 +1,4 @@
+-- `work`: its promises, directly from definitions and clauses.
 use Rattle.std.proofs.Common.{arith}
 use Rattle.amo_driver.proofs.working.work.Goals as goal
 

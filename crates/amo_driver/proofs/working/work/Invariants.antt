@@ -1,3 +1,4 @@
+-- The facts that each pass of a loop of `work` keeps.
 use Rattle.amo_driver.specs.Standing.{DoesMore}
 use Rattle.amo_driver.specs.Life.{IsGoing}
 use Rattle.amo_driver.proofs.working.work.Given as goal

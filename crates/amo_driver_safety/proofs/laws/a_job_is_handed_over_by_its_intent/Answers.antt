@@ -1,3 +1,4 @@
+-- `a_job_is_handed_over_by_its_intent`: its promises, by the lemmas of Intents.
 use Rattle.amo_driver_safety.proofs.Intents.{one_intent, no_intent_after, by_its_intent}
 use Rattle.amo_driver_safety.proofs.laws.a_job_is_handed_over_by_its_intent.Goals as goal
 

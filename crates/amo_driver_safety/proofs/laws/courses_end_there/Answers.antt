@@ -1,3 +1,4 @@
+-- `courses_end_there`: its promises, by the lemmas of Courses.
 use Rattle.amo_driver_safety.proofs.Courses.{ends_there, fell_there}
 use Rattle.amo_driver_safety.proofs.laws.courses_end_there.Goals as goal
 

@@ -1,3 +1,4 @@
+-- `courses_perform_once`: its promises, by the lemmas of Handed.
 use Rattle.amo_driver.specs.Course.{first_stage}
 use Rattle.std.proofs.Common.{refl, []}
 use Rattle.amo_driver_safety.proofs.Handed.{each_once}

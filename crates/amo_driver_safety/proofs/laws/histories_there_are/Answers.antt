@@ -1,3 +1,4 @@
+-- `histories_there_are`: its promises, by the lemmas of Example.
 use Rattle.amo_driver_safety.proofs.Example.{two_and_two, moments, is_history, handed, before_taking, after_taking, is_taken, handed_the_other}
 use Rattle.amo_driver_safety.proofs.laws.histories_there_are.Goals as goal
 

@@ -1,3 +1,4 @@
+-- `notes_say_what_was_answered`: its promises, by the lemmas of Courses.
 use Rattle.amo_driver_safety.proofs.Courses.{just_answered}
 use Rattle.amo_driver_safety.proofs.laws.notes_say_what_was_answered.Goals as goal
 

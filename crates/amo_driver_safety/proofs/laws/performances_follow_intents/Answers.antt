@@ -1,3 +1,4 @@
+-- `performances_follow_intents`: its promises, by the lemmas of Courses.
 use Rattle.amo_driver_safety.proofs.Courses.{just_cleared}
 use Rattle.amo_driver_safety.proofs.laws.performances_follow_intents.Goals as goal
 

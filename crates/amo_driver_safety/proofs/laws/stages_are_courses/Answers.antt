@@ -1,3 +1,4 @@
+-- `stages_are_courses`: its promises, by the lemmas of Logs.
 use Rattle.amo_driver_safety.proofs.Logs.{stands_by_log}
 use Rattle.amo_driver_safety.proofs.laws.stages_are_courses.Goals as goal
 

@@ -1,3 +1,4 @@
+-- `the_driver_hands_over_only_what_is_clear`: its promises, by the lemmas of Courses.
 use Rattle.amo_driver_safety.proofs.Courses.{just_clear, just_intended}
 use Rattle.amo_driver_safety.proofs.laws.the_driver_hands_over_only_what_is_clear.Goals as goal
 

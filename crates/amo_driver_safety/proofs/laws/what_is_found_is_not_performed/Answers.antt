@@ -1,3 +1,4 @@
+-- `what_is_found_is_not_performed`: its promises, by the lemmas of Found.
 use Rattle.std.proofs.Common.{refl, []}
 use Rattle.amo_driver.specs.Course.{first_stage}
 use Rattle.amo_driver_safety.proofs.Found.{not_performed}

@@ -1,3 +1,4 @@
+-- `what_is_taken_is_not_performed`: its promises, by the lemmas of Intents.
 use Rattle.std.proofs.Common.{refl, false}
 use Rattle.amo_driver.specs.declared.model.Deed.TheVariants.{Cleared}
 use Rattle.amo_driver_safety.specs.declared.model.Moment.TheVariants.{Does}

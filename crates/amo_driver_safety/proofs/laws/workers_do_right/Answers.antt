@@ -1,3 +1,4 @@
+-- `workers_do_right`: its promises, by the lemmas of Logs.
 use Rattle.amo_driver_safety.proofs.Logs.{call_may_be, deed_may_be}
 use Rattle.amo_driver_safety.proofs.laws.workers_do_right.Goals as goal
 

@@ -1,3 +1,4 @@
+-- `day_of`: what its loop keeps and its promises, by the lemmas of DayLemmas.
 use Rattle.std.proofs.Common.{◌∷◌, [], ◌++◌, ◌∙◌, ap, sym, map, List, ℕ}
 use denote.Bor.{Bor}
 use Rattle.amo_example_payments.proofs.DayLemmas.{day_more, said_more, broken}

@@ -1,3 +1,4 @@
+-- The facts that each pass of a loop of `day_of` keeps.
 use Rattle.std.proofs.Common.{◌≡◌, List, Some, map, take}
 use Rattle.amo_example_payments.specs.declared.line.Line.{Line}
 use Rattle.amo_example_payments.specs.Days.{IsDay}

@@ -1,3 +1,4 @@
+-- `lines_of`: its promises, directly from definitions and clauses.
 use Rattle.std.proofs.lemmas.Iterator.Consumers.{map_from_collect}
 use Rattle.std.proofs.lemmas.Iterator.Splits.{YieldsList-from_lines}
 use Rattle.amo_example_payments.proofs.day.lines_of.Goals as goal

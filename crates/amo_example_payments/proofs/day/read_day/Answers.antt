@@ -1,3 +1,4 @@
+-- `read_day`: its promises, directly from definitions and clauses.
 use Rattle.std.proofs.Common.{rules}
 use Rattle.std.proofs.lemmas.Option.{IfSome_then}
 use Rattle.amo_example_payments.specs.Days.{IsDayOf}

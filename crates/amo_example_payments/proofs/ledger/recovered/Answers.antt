@@ -1,3 +1,4 @@
+-- `recovered`: its promises, by the lemmas of Logs (amo_journal).
 use Rattle.std.proofs.Common.{sym}
 use Rattle.amo_journal.specs.Logs.{records_of}
 use Rattle.amo_journal.proofs.Logs.{lines_records, log_texts}

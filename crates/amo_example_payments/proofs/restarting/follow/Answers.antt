@@ -1,3 +1,4 @@
+-- `follow`: its promises, by the lemmas of Ledgers.
 use Rattle.std.proofs.Common.{◌≡◌, Bool, true, false, not, refl, sym, ◌∙◌, subst, Some}
 use Rattle.amo_run_log.specs.declared.entry.Entry.{Entry}
 use Rattle.amo_run_log.specs.Journals.{noted}

@@ -1,3 +1,4 @@
+-- The facts that each pass of a loop of `part` keeps.
 use Rattle.amo_example_payments.specs.Restarts.{IsParted}
 use Rattle.amo_example_payments.proofs.restarting.part.Given as goal
 

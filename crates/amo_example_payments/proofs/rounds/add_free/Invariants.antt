@@ -1,3 +1,4 @@
+-- The facts that each pass of a loop of `add_free` keeps.
 use Rattle.std.proofs.Common.{◌≡◌, ◌++◌, map}
 use Rattle.amo_example_payments.proofs.rounds.add_free.Given as goal
 

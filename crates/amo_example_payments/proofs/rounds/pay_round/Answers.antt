@@ -1,3 +1,4 @@
+-- `pay_round`: its promises, by the lemmas of RoundLemmas.
 use Rattle.std.proofs.Common.{rules}
 use Rattle.amo_example_payments.proofs.RoundLemmas.{round_of, run_fault, unsorted}
 use Rattle.amo_example_payments.proofs.rounds.pay_round.Goals as goal

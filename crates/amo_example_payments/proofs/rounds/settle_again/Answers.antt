@@ -1,3 +1,4 @@
+-- `settle_again`: its promises, directly from definitions and clauses.
 use Rattle.amo_example_payments.proofs.rounds.settle_again.Goals as goal
 
 pub returns-in-Ok-clause-outcome : goal.returns-in-Ok-clause-outcome

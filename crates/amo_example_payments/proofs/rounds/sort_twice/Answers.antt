@@ -1,3 +1,4 @@
+-- `sort_twice`: its promises, directly from definitions and clauses.
 use Rattle.std.proofs.Common.{sym, subst}
 use Rattle.amo_crew.specs.Outcomes.{IsOutcome}
 use Rattle.amo_crew.specs.declared.outcome.Outcome.{Outcome}

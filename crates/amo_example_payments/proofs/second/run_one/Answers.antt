@@ -1,3 +1,4 @@
+-- `run_one`: its promises, by the lemmas of Seconds.
 use Rattle.std.proofs.Common.{rules, refl, subst}
 use Rattle.amo_words.specs.Faces.{Seated, spots}
 use Rattle.amo_words.specs.Settling.{IsWhole}

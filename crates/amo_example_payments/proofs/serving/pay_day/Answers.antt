@@ -1,3 +1,4 @@
+-- `pay_day`: its promises, by the lemmas of DayReports and Fronts.
 use Rattle.std.proofs.Common.{codes, refl, subst}
 use Rattle.std.specs.Io.KnownBytes.{Appends}
 use Rattle.amo_io.specs.Streams.{AppendsFront}

@@ -1,3 +1,4 @@
+-- `serve`: its promises, by the lemmas of Ledgers.
 use Rattle.std.proofs.Common.{◌≡◌, inr, Result, Err, Some, length, refl, sym, ap, subst, ◌∙◌, rules}
 use Rattle.std.proofs.lemmas.Option.{IfSome_then}
 use Rattle.std.proofs.lemmas.Result.{on_ok_weaker, on_err_weaker}

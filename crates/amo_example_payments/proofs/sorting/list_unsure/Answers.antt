@@ -1,3 +1,4 @@
+-- `list_unsure`: what its loop keeps, by the lemmas of Sorts.
 use Rattle.std.proofs.Common.{◌||◌, filter, not, ap, ◌∙◌, sym, arith}
 use Rattle.std.specs.BTreeSet.{contains}
 use Rattle.std.specs.Ordering.{nat_cmp}

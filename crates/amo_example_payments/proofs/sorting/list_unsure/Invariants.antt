@@ -1,3 +1,4 @@
+-- The facts that each pass of a loop of `list_unsure` keeps.
 use Rattle.std.proofs.Common.{◌≡◌, ◌≤◌, ◌||◌, not, filter, take, vec_len, vec_capacity}
 use Rattle.std.specs.List.{enumerate_from}
 use Rattle.std.specs.BTreeSet.{contains}

@@ -1,3 +1,4 @@
+-- `sort_out`: its promises, by the lemmas of Sorts.
 use Rattle.std.proofs.Common.{rules}
 use Rattle.amo_example_payments.proofs.Sorts.{sorted}
 use Rattle.amo_example_payments.proofs.sorting.sort_out.Goals as goal

@@ -1,3 +1,4 @@
+-- The facts that each pass of a loop of `run_until` keeps.
 use Rattle.std.proofs.Common.{◌≤◌, vec_capacity}
 use Rattle.amo_claims.specs.Calls.{worker_in}
 use Rattle.amo_example_payments.specs.Stopping.{HasPaid, IsEmpty, EndsIfOver}

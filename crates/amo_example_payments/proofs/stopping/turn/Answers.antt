@@ -1,3 +1,4 @@
+-- `turn`: its promises, by the lemmas of Stops.
 use Rattle.std.proofs.Common.{◌≡◌, ℕ, List, sym, ◌∙◌, subst}
 use Rattle.amo_words.specs.Faces.{Seated, machine}
 use Rattle.amo_claims.specs.States.{Holds}

@@ -1,3 +1,4 @@
+-- The facts that each pass of a loop of `push_done` keeps.
 use Rattle.std.proofs.Common.{◌≡◌, ◌++◌, drop, string_bytes}
 use Rattle.amo_example_payments.specs.Reports.{done_lines}
 use Rattle.amo_example_payments.proofs.telling.push_done.Given as goal

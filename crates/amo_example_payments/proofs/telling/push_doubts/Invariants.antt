@@ -1,3 +1,4 @@
+-- The facts that each pass of a loop of `push_doubts` keeps.
 use Rattle.std.proofs.Common.{◌≡◌, ◌++◌, drop, string_bytes}
 use Rattle.amo_example_payments.specs.Reports.{doubt_lines}
 use Rattle.amo_example_payments.proofs.telling.push_doubts.Given as goal

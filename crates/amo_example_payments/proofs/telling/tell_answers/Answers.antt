@@ -1,3 +1,4 @@
+-- `tell_answers`: its promises, by the lemmas of Fronts.
 use Rattle.amo_example_payments.proofs.Fronts.{wrote}
 use Rattle.amo_example_payments.proofs.telling.tell_answers.Goals as goal
 

@@ -1,3 +1,4 @@
+-- `tell_round`: its promises, by the lemmas of Fronts.
 use Rattle.std.proofs.Common.{◌≡◌, rules, OnErr, subst, append_assoc}
 use Rattle.amo_io.specs.Streams.{AppendsFront}
 use Rattle.amo_example_payments.specs.Reports.{round_text}

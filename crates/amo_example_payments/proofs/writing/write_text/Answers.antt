@@ -1,3 +1,4 @@
+-- `write_text`: what its loop keeps, directly from definitions and clauses.
 use Rattle.std.proofs.Common.{arith}
 use Rattle.std.proofs.Math.Seq.{take-add}
 use Rattle.std.proofs.KnownBytes.{Appends-trans}

@@ -1,3 +1,4 @@
+-- The facts that each pass of a loop of `write_text` keeps.
 use Rattle.std.proofs.Common.{◌≤◌, ◌-◌, length, take}
 use Rattle.std.specs.Io.KnownBytes.{Appends}
 use Rattle.amo_example_payments.proofs.writing.write_text.Given as goal

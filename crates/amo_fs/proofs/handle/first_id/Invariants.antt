@@ -1,3 +1,4 @@
+-- The facts that each pass of a loop of `first_id` keeps.
 use Rattle.std.proofs.Common.{◌≡◌, map, drop}
 use Rattle.amo_fs.specs.Handles.{first_id}
 use Rattle.amo_fs.proofs.handle.first_id.Given as goal

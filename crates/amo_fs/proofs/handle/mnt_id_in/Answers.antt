@@ -1,3 +1,4 @@
+-- `mnt_id_in`: its promises, by the lemmas of First and Lines.
 use Rattle.std.proofs.Common.{ℕ, List, Bor}
 use Rattle.amo_fs.specs.Handles.{mnt_id_in, IsIdIn, NoIdIn}
 use Rattle.amo_fs.proofs.First.{in_ok, if_some, if_none}

@@ -1,3 +1,4 @@
+-- The facts that each pass of a loop of `behind_dash` keeps.
 use Rattle.std.proofs.Common.{◌≡◌, map, drop}
 use Rattle.amo_fs.specs.Mounts.{behind_dash}
 use Rattle.amo_fs.proofs.mount.behind_dash.Given as goal

@@ -1,3 +1,4 @@
+-- The facts that each pass of a loop of `first_mount` keeps.
 use Rattle.std.proofs.Common.{◌≡◌, map, drop}
 use Rattle.amo_fs.specs.Mounts.{first_mount}
 use Rattle.amo_fs.proofs.mount.first_mount.Given as goal

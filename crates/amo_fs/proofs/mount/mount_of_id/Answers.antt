@@ -1,3 +1,4 @@
+-- `mount_of_id`: its promises, by the lemmas of First and Lines.
 use Rattle.amo_fs.specs.Mounts.{seen, mount_of_id, IsMountOf, NoMountOf}
 use Rattle.amo_fs.proofs.First.{in_ok, if_some, if_none}
 use Rattle.amo_fs.proofs.Lines.{mount_is, no_mount_is}

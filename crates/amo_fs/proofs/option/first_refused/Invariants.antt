@@ -1,3 +1,4 @@
+-- The facts that each pass of a loop of `first_refused` keeps.
 use Rattle.std.proofs.Common.{◌≡◌, map, drop}
 use Rattle.amo_fs.specs.Options.{first_refused}
 use Rattle.amo_fs.proofs.option.first_refused.Given as goal

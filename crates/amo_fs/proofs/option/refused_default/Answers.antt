@@ -1,3 +1,4 @@
+-- `refused_default`: its promises, by the lemmas of First and Refused.
 use Rattle.std.proofs.Common.{ℕ, List, Bor}
 use Rattle.amo_fs.specs.Options.{refused_default, IsFirstRefused, NoneRefused}
 use Rattle.amo_fs.specs.Parts.{lines_of}

@@ -1,3 +1,4 @@
+-- `refused_option`: its promises, by the lemmas of First and Refused.
 use Rattle.std.proofs.Common.{ℕ, List, Bor}
 use Rattle.amo_fs.specs.Mounts.{seen}
 use Rattle.amo_fs.specs.Options.{all_options, refused_option, IsFirstRefused, NoneRefused}

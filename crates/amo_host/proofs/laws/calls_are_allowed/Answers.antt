@@ -1,3 +1,4 @@
+-- `calls_are_allowed`: its promises, by the lemmas of Steps.
 use Rattle.amo_host.proofs.Steps.{calls_allowed}
 use Rattle.amo_host.proofs.laws.calls_are_allowed.Goals as goal
 

@@ -1,3 +1,4 @@
+-- `records_tell_where_it_stands`: its promises, by the lemmas of Steps.
 use Rattle.amo_host.proofs.Steps.{stands_more}
 use Rattle.amo_host.proofs.laws.records_tell_where_it_stands.Goals as goal
 

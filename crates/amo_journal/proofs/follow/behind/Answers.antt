@@ -1,3 +1,4 @@
+-- `behind`: its promises, by the lemmas of Following.
 use Rattle.std.proofs.lemmas.Bool.Decides.{Decides-eqb}
 use Rattle.std.proofs.lemmas.Slice.Eq.{strip_prefix_is}
 use Rattle.amo_journal.proofs.Following.{in_some, in_none}

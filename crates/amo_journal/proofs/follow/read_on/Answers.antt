@@ -1,3 +1,4 @@
+-- `read_on`: the premises of its calls and its promises, by the lemmas of Following.
 use Rattle.std.proofs.Common.{rules, ◌≡◌, ◌+◌, ◌++◌, ◌<◌, ◌^◌, ℕ, length, subst, sym, ap, ◌∙◌, arith, length-append}
 use Rattle.amo_journal.specs.Logs.{records_of}
 use Rattle.amo_journal.specs.Following.{IsReasonThere}

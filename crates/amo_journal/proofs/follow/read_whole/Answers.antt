@@ -1,3 +1,4 @@
+-- `read_whole`: its promises, directly from definitions and clauses.
 use Rattle.std.proofs.Common.{[]}
 use Rattle.amo_journal.proofs.follow.read_whole.Goals as goal
 

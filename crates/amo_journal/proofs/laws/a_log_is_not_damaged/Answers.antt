@@ -1,3 +1,4 @@
+-- `a_log_is_not_damaged`: its promises, by the lemmas of Undamaged.
 use Rattle.amo_journal.proofs.Undamaged.{one_list, undamaged}
 use Rattle.amo_journal.proofs.laws.a_log_is_not_damaged.Goals as goal
 

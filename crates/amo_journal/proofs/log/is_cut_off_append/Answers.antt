@@ -1,3 +1,4 @@
+-- `is_cut_off_append`: its promises, by the lemmas of Splits.
 use Rattle.std.proofs.Common.{rules}
 use Rattle.amo_journal.proofs.Splits.{next_of}
 use Rattle.amo_journal.proofs.log.is_cut_off_append.Goals as goal

@@ -1,3 +1,4 @@
+-- `read_log`: what its loop keeps, by the lemmas of Blocks and Chains.
 use Rattle.std.proofs.Common.{rules, ◌≡◌, ◌++◌, ◌∷◌, [], List, ℕ, length, sym, ap, subst, ◌∙◌, arith, length-append}
 use Rattle.amo_journal.specs.Appends.{appends, line_of, next_checksum, checksum_after}
 use Rattle.amo_journal.specs.Logs.{records_of, checksums_of, checksums_from}

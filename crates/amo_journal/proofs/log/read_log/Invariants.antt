@@ -1,3 +1,4 @@
+-- The facts that each pass of a loop of `read_log` keeps.
 use Rattle.std.proofs.Common.{◌≡◌, ◌+◌, ◌++◌, length}
 use Rattle.amo_journal.specs.Appends.{appends, checksum_after}
 use Rattle.amo_journal.specs.Logs.{records_of, checksums_of, checksums_from}

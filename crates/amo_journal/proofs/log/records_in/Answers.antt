@@ -1,3 +1,4 @@
+-- `records_in`: its promises, by the lemmas of Checksums.
 use Rattle.std.proofs.Common.{◌≡◌, ◌+◌, ◌-◌, ◌<◌, drop, length, ap, arith, rules}
 use Rattle.amo_journal.proofs.Checksums.{length-line_of, parts_of_line}
 use Rattle.amo_journal.proofs.log.records_in.Goals as goal

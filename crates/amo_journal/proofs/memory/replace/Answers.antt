@@ -1,3 +1,4 @@
+-- `replace`: its promises, directly from definitions and clauses.
 use Rattle.std.proofs.Common.{◌≡◌, rules}
 use Rattle.amo_journal.proofs.memory.replace.Goals as goal
 

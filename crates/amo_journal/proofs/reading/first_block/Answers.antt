@@ -1,3 +1,4 @@
+-- `first_block`: its promises, by the lemmas of Blocks.
 use Rattle.std.proofs.Common.{rules}
 use Rattle.amo_journal.proofs.Blocks.{no_block}
 use Rattle.amo_journal.proofs.reading.first_block.Goals as goal

@@ -1,3 +1,4 @@
+-- The facts that each pass of a loop of `first_line` keeps.
 use Rattle.std.proofs.Common.{◌≢◌, ℕ, ◌<◌, get_or}
 use Rattle.amo_journal.proofs.reading.first_line.Given as goal
 

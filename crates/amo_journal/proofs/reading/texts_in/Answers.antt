@@ -1,3 +1,4 @@
+-- `texts_in`: what its loop keeps and its promises, by the lemmas of Blocks and Chains.
 use Rattle.std.proofs.Common.{rules, ◌≡◌, ◌++◌, ◌∷◌, [], List, ℕ, sym, ap, subst, ◌∙◌}
 use Rattle.amo_journal.specs.Logs.{records_of}
 use Rattle.amo_journal.specs.Texts.{texts_in}

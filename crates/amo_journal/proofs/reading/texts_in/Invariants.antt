@@ -1,3 +1,4 @@
+-- The facts that each pass of a loop of `texts_in` keeps.
 use Rattle.std.proofs.Common.{◌≡◌, ◌++◌, length}
 use Rattle.amo_journal.specs.Logs.{records_of}
 use Rattle.amo_journal.specs.Texts.{texts_in}

@@ -1,3 +1,4 @@
+-- `append_line`: its promises, by the lemmas of Moments, Parts, Putting, Results and Whole.
 use Rattle.std.proofs.Common.{◌≡◌, ◌⊎◌, ◌+◌, ◌++◌, [], ◌∷◌, List, ℕ, length, take, inl, ◌∙◌, ap, subst}
 use Rattle.std.specs.Prelude.{OnOk}
 use Rattle.amo_journal.specs.Device.{LeavesOnly, TornFrom, WritesFront}

@@ -1,3 +1,5 @@
+-- `close_end`: the premises of its calls and its promises, by the lemmas of Moments, Whole, Parts,
+-- Results and Ending.
 use Rattle.std.proofs.Common.{◌∷◌, [], ℕ, ◌≤◌, List, length, refl, ap, arith, length-take}
 use Rattle.amo_journal.specs.Device.{AgreesBut, Holds, IsOutside, LeavesOnly}
 use Rattle.amo_journal.specs.Texts.{texts_in}
@@ -16,7 +18,7 @@ first g c =
     cut_off g.D.Device.moment g.D.Device.left_since g.D.Device.seen g.D.Device.may_leave g.D.Device.stale c.args.device.now c.cut_and_sync.new.device c.args.end c.kept_len.result (cut_near (texts_in (g.D.Device.seen c.args.device.now)) (texts_are_one_line (g.D.Device.seen c.args.device.now)) c.args.end c.requires.end (g.D.Device.seen c.args.device.now) c.kept_len.result c.args.len refl c.requires.len c.kept_len.ensures.near).0
     c.requires.end c.requires.kept c.requires.fresh c.cut_and_sync.ensures.front c.cut_and_sync.ensures.crash c.cut_and_sync.ensures.stale c.cut_and_sync.ensures.any_moment
 
--- one byte stands behind the blocks at most
+-- at most one byte follows the blocks
 cut : (g : _) (c : After-write_and_sync g) → IsCut g.D.Device.seen g.D.Device.may_leave g.D.Device.stale (texts_in (g.D.Device.seen c.args.device.now)) c.cut_and_sync.new.device
 cut g c =
     let at = cut_near (texts_in (g.D.Device.seen c.args.device.now)) (texts_are_one_line (g.D.Device.seen c.args.device.now)) c.args.end c.requires.end (g.D.Device.seen c.args.device.now) c.kept_len.result c.args.len refl c.requires.len c.kept_len.ensures.near in

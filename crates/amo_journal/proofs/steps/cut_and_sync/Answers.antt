@@ -1,3 +1,4 @@
+-- `cut_and_sync`: its promises, by the lemmas of Moments and Ending.
 use Rattle.amo_journal.specs.Device.{CutFrom}
 use Rattle.amo_journal.proofs.Moments.{started, goes_on}
 use Rattle.amo_journal.proofs.Ending.{cut_none}

@@ -1,3 +1,5 @@
+-- `open_again`: the premises of its calls, that its numbers fit and its promises, by the lemmas of
+-- Moments, Parts, Ending, Results, Opening and Whole.
 use Rattle.std.proofs.Common.{◌≡◌, ◌-◌, ◌+◌, ◌≤◌, ℕ, List, length, ⊎_elim, refl, sym, ap, subst, arith, rules}
 use Rattle.amo_journal.specs.Texts.{texts_in, blocks}
 use Rattle.amo_journal.specs.Journal.{IsNear, IsUnsure, IsWhole, StaysNear}
@@ -10,7 +12,7 @@ use Rattle.amo_journal.proofs.Whole.{again_whole}
 use Rattle.amo_journal.proofs.steps.open_again.Goals as goal
 use Rattle.amo_journal.proofs.steps.open_again.Goals.{In-Some, In_default}
 
--- where the last text and its gate stand
+-- the places of the last text and its gate
 last_of : (g : _) (c : In-Some g) → IsLast (texts_in (g.D.Device.seen c.args.device.now)) c.args.end c.in-Some.last
 last_of g c = last_gate (texts_in (g.D.Device.seen c.args.device.now)) c.args.end c.in-Some.last (search rules) c.requires.end
 

@@ -1,3 +1,5 @@
+-- `recover_file`: the premises of its calls and its promises, by the lemmas of Logs, Moments,
+-- Opening and Results.
 use Rattle.std.proofs.Common.{◌≡◌, ℕ, List, Option, Some, None, length, inl, sym, ◌∙◌, ap, subst}
 use Rattle.std.specs.Prelude.{IfSome}
 use Rattle.amo_journal.specs.Appends.{IsLog, lines_from}

@@ -1,3 +1,4 @@
+-- The facts that each pass of a loop of `claim_of` keeps.
 use Rattle.std.proofs.Common.{◌≡◌, ◌+◌, drop}
 use Rattle.amo_judge.specs.Why.{is_claim_of, first_from}
 use Rattle.amo_judge.proofs.before.claim_of.Given as goal

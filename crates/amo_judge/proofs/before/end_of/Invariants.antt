@@ -1,3 +1,4 @@
+-- The facts that each pass of a loop of `end_of` keeps.
 use Rattle.std.proofs.Common.{◌≡◌, ◌+◌, drop}
 use Rattle.amo_judge.specs.Why.{is_end_of, first_from}
 use Rattle.amo_judge.proofs.before.end_of.Given as goal

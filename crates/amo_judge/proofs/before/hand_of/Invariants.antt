@@ -1,3 +1,4 @@
+-- The facts that each pass of a loop of `hand_of` keeps.
 use Rattle.std.proofs.Common.{◌≡◌, ◌+◌, drop, None}
 use Rattle.amo_judge.specs.Why.{hand_from}
 use Rattle.amo_judge.proofs.before.hand_of.Given as goal

@@ -1,3 +1,4 @@
+-- The facts that each pass of a loop of `performed` keeps.
 use Rattle.std.proofs.Common.{◌≡◌, ◌+◌, ◌≤◌, drop, length}
 use Rattle.amo_kk.specs.Run.{done_jobs}
 use Rattle.amo_judge.proofs.before.performed.Given as goal

@@ -1,3 +1,4 @@
+-- `history_text`: the premises of its calls, by the lemmas of NextLine.
 use Rattle.std.proofs.Common.{◌≤◌, List, length, subst}
 use Rattle.amo_kk.specs.Object.{first_object}
 use Rattle.amo_kk.specs.declared.event.Event.{Event}

@@ -1,3 +1,4 @@
+-- `a_history_is_one_of_two`: its promises, by the lemmas of Begins.
 use Rattle.amo_judge.proofs.Begins.{one_of_two}
 use Rattle.amo_judge.proofs.laws.a_history_is_one_of_two.Goals as goal
 

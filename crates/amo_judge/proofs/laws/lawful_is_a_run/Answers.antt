@@ -1,3 +1,4 @@
+-- `lawful_is_a_run`: its promises, by the lemmas of Begins.
 use Rattle.amo_judge.proofs.Begins.{lawful_answer, lawful_only}
 use Rattle.amo_judge.proofs.laws.lawful_is_a_run.Goals as goal
 

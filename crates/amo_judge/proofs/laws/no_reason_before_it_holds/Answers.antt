@@ -1,3 +1,4 @@
+-- `no_reason_before_it_holds`: its promises, by the lemmas of Order.
 use Rattle.amo_judge.specs.declared.reasons.Reason.TheVariants.{Gone, NoJob, InHand, NotInHand, ClaimedBefore, Early}
 use Rattle.amo_judge.proofs.Order.{passed}
 use Rattle.amo_judge.proofs.laws.no_reason_before_it_holds.Goals as goal

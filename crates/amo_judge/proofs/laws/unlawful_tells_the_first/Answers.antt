@@ -1,3 +1,4 @@
+-- `unlawful_tells_the_first`: its promises, by the lemmas of Begins.
 use Rattle.amo_judge.proofs.Begins.{unlawful_answer}
 use Rattle.amo_judge.proofs.laws.unlawful_tells_the_first.Goals as goal
 

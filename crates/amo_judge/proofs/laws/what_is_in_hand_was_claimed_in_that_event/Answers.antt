@@ -1,3 +1,4 @@
+-- `what_is_in_hand_was_claimed_in_that_event`: its promises, by the lemmas of Told.
 use Rattle.amo_judge.specs.declared.reasons.Reason.TheVariants.{InHand}
 use Rattle.amo_judge.proofs.Told.{said}
 use Rattle.amo_judge.proofs.laws.what_is_in_hand_was_claimed_in_that_event.Goals as goal

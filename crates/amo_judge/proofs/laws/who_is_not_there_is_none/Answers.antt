@@ -1,3 +1,4 @@
+-- `who_is_not_there_is_none`: its promises, by the lemmas of Told.
 use Rattle.amo_judge.specs.declared.reasons.Reason.TheVariants.{NoWorker, NoJob}
 use Rattle.amo_judge.proofs.Told.{said}
 use Rattle.amo_judge.proofs.laws.who_is_not_there_is_none.Goals as goal

@@ -1,3 +1,4 @@
+-- `why_tests_the_state`: its promises, by the lemmas of Found and Searches.
 use Rattle.amo_judge.proofs.Found.{reason_found}
 use Rattle.amo_judge.proofs.Searches.{gone_is, hand_is, unclaimed_is, performed_is}
 use Rattle.amo_judge.proofs.laws.why_tests_the_state.Goals as goal

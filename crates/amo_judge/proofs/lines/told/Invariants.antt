@@ -1,3 +1,4 @@
+-- The facts that each pass of a loop of `told` keeps.
 use Rattle.std.proofs.Common.{◌≡◌, ◌+◌, map, drop}
 use Rattle.amo_judge.specs.Lines.{told}
 use Rattle.amo_judge.proofs.lines.told.Given as goal

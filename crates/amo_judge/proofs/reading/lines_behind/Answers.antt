@@ -1,3 +1,4 @@
+-- `lines_behind`: its promises, directly from definitions and clauses.
 use Rattle.std.proofs.Common.{◌≡◌, ℕ, List, map, take, Bor, IfOk, sym, ap, subst, ◌∙◌}
 use Rattle.std.proofs.lemmas.List.{take-map}
 use Rattle.amo_judge.specs.History.{first_history, with_lines}

@@ -1,3 +1,4 @@
+-- `with_lines`: what its loop keeps, by the lemmas of NextLine.
 use Rattle.std.proofs.Common.{◌+◌, ℕ, List, [], Bor, get_or, sym, ap, ◌∙◌}
 use Rattle.amo_judge.proofs.NextLine.{is_taken, one_event, one_line}
 use Rattle.amo_judge.proofs.reading.with_lines.Goals as goal

@@ -1,3 +1,4 @@
+-- The facts that each pass of a loop of `place_in` keeps.
 use Rattle.std.proofs.Common.{◌≡◌, ◌+◌, map, drop}
 use Rattle.amo_judge.specs.Roll.{place_in}
 use Rattle.amo_judge.proofs.roll.place_in.Given as goal

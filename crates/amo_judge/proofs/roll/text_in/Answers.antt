@@ -1,3 +1,4 @@
+-- `text_in`: its promises, by the lemmas of Texts.
 use Rattle.amo_judge.proofs.Texts.{is_text, is_no_text}
 use Rattle.amo_judge.proofs.roll.text_in.Goals as goal
 

@@ -1,3 +1,4 @@
+-- The facts that each pass of a loop of `again_at` keeps.
 use Rattle.std.proofs.Common.{◌≡◌, map}
 use Rattle.amo_run_log.specs.declared.finding.Resolution.TheVariants.{NotDone}
 use Rattle.amo_operator.proofs.deciding.again_at.Given as goal

@@ -1,3 +1,4 @@
+-- The facts that each pass of a loop of `judge_all` keeps.
 use Rattle.std.proofs.Common.{◌≡◌, drop}
 use Rattle.amo_operator.specs.Judging.{judged_all, none_judged}
 use Rattle.amo_operator.specs.Views.{judged_of, known_of}

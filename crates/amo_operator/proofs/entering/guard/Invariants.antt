@@ -1,3 +1,4 @@
+-- The facts that each pass of a loop of `guard` keeps.
 use Rattle.std.proofs.Common.{true}
 use Rattle.amo_operator.specs.Phase.{Enters}
 use Rattle.amo_operator.proofs.entering.guard.Given as goal

@@ -1,3 +1,4 @@
+-- `findings_in`: its promises, by the lemmas of Unreadable.
 use Rattle.std.proofs.Common.{map}
 use Rattle.amo_operator.proofs.Unreadable.{unsaid_for}
 use Rattle.amo_operator.proofs.probing.findings_in.Goals as goal

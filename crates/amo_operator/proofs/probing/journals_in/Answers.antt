@@ -1,3 +1,4 @@
+-- `journals_in`: its promises, by the lemmas of Knowledge and Unreadable.
 use Rattle.std.proofs.Common.{◌≡◌, ◌∙◌, None, map, subst, arith}
 use Rattle.amo_run_log.specs.Journals.{attempts_in}
 use Rattle.amo_operator.proofs.Knowledge.{unreadable}

@@ -1,3 +1,4 @@
+-- The facts that each pass of a loop of `journals_in` keeps.
 use Rattle.std.proofs.Common.{◌≡◌, ◌++◌, drop, map}
 use Rattle.amo_operator.specs.Knowing.{are_readable, journals_in}
 use Rattle.amo_operator.proofs.probing.journals_in.Given as goal

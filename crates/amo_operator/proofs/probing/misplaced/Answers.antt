@@ -1,3 +1,4 @@
+-- `misplaced`: its promises, by the lemmas of Placing.
 use Rattle.std.proofs.Common.{map}
 use Rattle.amo_operator.proofs.Placing.{misplaced_if}
 use Rattle.amo_operator.proofs.probing.misplaced.Goals as goal

@@ -1,3 +1,4 @@
+-- `note_doubt`: its promises, by the lemmas of Setting.
 use Rattle.std.proofs.Common.{length, refl, arith}
 use Rattle.std.proofs.lemmas.Option.{slice_get_read}
 use Rattle.amo_operator.proofs.Setting.{doubts}

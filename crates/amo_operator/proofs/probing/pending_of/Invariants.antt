@@ -1,3 +1,4 @@
+-- The facts that each pass of a loop of `pending_of` keeps.
 use Rattle.std.proofs.Common.{◌≡◌, ◌++◌, drop, map}
 use Rattle.amo_operator.specs.Knowing.{pending_of}
 use Rattle.amo_operator.proofs.probing.pending_of.Given as goal

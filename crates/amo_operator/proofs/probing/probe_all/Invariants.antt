@@ -1,3 +1,4 @@
+-- The facts that each pass of a loop of `probe_all` keeps.
 use Rattle.std.proofs.Common.{drop}
 use Rattle.amo_operator.specs.Phase.{Probes}
 use Rattle.amo_operator.specs.Views.{known_of}

@@ -1,3 +1,4 @@
+-- The facts that each pass of a loop of `push_pending` keeps.
 use Rattle.std.proofs.Common.{◌≡◌, ◌++◌, map}
 use Rattle.amo_operator.proofs.probing.push_pending.Given as goal
 

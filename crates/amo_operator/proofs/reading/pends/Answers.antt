@@ -1,3 +1,4 @@
+-- `pends`: its promises, by the lemmas of Unreadable.
 use Rattle.std.proofs.Common.{◌-◌, ◌^◌, map, ap}
 use Rattle.std.specs.Prelude.{option_map}
 use Rattle.amo_operator.specs.Knowing.{has_pending}

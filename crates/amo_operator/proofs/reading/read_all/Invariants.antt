@@ -1,3 +1,4 @@
+-- The facts that each pass of a loop of `read_all` keeps.
 use Rattle.std.proofs.Common.{◌+◌}
 use Rattle.amo_operator.specs.Knowing.{workers_since}
 use Rattle.amo_operator.specs.Protocol.{reads_to}

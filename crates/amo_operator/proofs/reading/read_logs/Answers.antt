@@ -1,3 +1,4 @@
+-- `read_logs`: the premises of its calls, by the lemmas of Workers.
 use Rattle.std.proofs.Common.{◌+◌, arith}
 use Rattle.amo_operator.specs.Views.{texts_of}
 use Rattle.amo_operator.proofs.Workers.{looks_next}

@@ -1,3 +1,4 @@
+-- `lines_stand`: its promises, by the lemmas of Lines.
 use Rattle.std.proofs.Common.{length, map, ap, ◌∙◌}
 use Rattle.amo_operator.proofs.Lines.{as_many}
 use Rattle.amo_operator.proofs.report.lines_stand.Goals as goal

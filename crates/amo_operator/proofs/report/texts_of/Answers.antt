@@ -1,3 +1,4 @@
+-- `texts_of`: what its loop keeps, by the lemmas of Lines.
 use Rattle.std.proofs.Common.{◌≡◌, ◌+◌, ◌++◌, ◌∷◌, [], drop, map, sym, ap, subst, arith, ◌∙◌}
 use Rattle.amo_operator.proofs.Lines.{one_more}
 use Rattle.amo_operator.proofs.report.texts_of.Goals as goal

@@ -1,3 +1,4 @@
+-- The facts that each pass of a loop of `texts_of` keeps.
 use Rattle.std.proofs.Common.{◌≡◌, ◌++◌, drop, map}
 use Rattle.amo_operator.proofs.report.texts_of.Given as goal
 

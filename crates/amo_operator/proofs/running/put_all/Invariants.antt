@@ -1,3 +1,4 @@
+-- The facts that each pass of a loop of `put_all` keeps.
 use Rattle.std.proofs.Common.{drop}
 use Rattle.amo_operator.specs.Phase.{Puts}
 use Rattle.amo_operator.proofs.running.put_all.Given as goal

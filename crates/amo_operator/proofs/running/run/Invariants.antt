@@ -1,3 +1,4 @@
+-- The facts that each pass of a loop of `run` keeps.
 use Rattle.std.proofs.Common.{false}
 use Rattle.amo_operator.specs.Phase.{Enters}
 use Rattle.amo_operator.proofs.running.run.Given as goal

@@ -1,3 +1,4 @@
+-- The facts that each pass of a loop of `count_filed` keeps.
 use Rattle.std.proofs.Common.{◌≡◌, ◌≤◌, length}
 use Rattle.amo_outcome.specs.Noted.{filed_blocks}
 use Rattle.amo_outcome.proofs.block_done.count_filed.Given as goal

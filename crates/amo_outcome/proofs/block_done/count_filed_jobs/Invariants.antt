@@ -1,3 +1,4 @@
+-- The facts that each pass of a loop of `count_filed_jobs` keeps.
 use Rattle.std.proofs.Common.{◌≡◌, ◌≤◌, ◌*◌, sum_by}
 use Rattle.amo_render.specs.Results.{jobs_in_block}
 use Rattle.amo_outcome.specs.Noted.{filed_blocks}

@@ -1,3 +1,4 @@
+-- `filed_of`: its promises, by the lemmas of DoneSets.
 use Rattle.std.proofs.Common.{rules, ◌≡◌, None, List, Bool, Option, length, sym, subst, arith}
 use Rattle.amo_sets.specs.Lists.{numbered}
 use Rattle.amo_outcome.specs.declared.block_done.BlockDone.{BlockDone}

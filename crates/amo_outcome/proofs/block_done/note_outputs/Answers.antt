@@ -1,3 +1,4 @@
+-- `note_outputs`: what its loop keeps, by the lemmas of Noting.
 use Rattle.std.proofs.Common.{◌∙◌, arith}
 use Rattle.amo_outcome.specs.Noted.{is_in}
 use Rattle.amo_outcome.proofs.Noting.{noted_next}

@@ -1,3 +1,4 @@
+-- The facts that each pass of a loop of `note_outputs` keeps.
 use Rattle.std.proofs.Common.{◌≡◌, ◌≤◌, ℕ, None, length, take}
 use Rattle.amo_sets.specs.Lists.{numbered}
 use Rattle.amo_outcome.specs.Noted.{is_in, IsNoted}

@@ -1,9 +1,10 @@
+-- The facts that each pass of a loop of `set_of` keeps.
 use Rattle.std.proofs.Common.{◌≡◌, ◌≤◌, ℕ, ◌||◌, false, length, drop}
 use Rattle.amo_sets.specs.Lists.{numbered}
 use Rattle.amo_sets.specs.Sets.{has}
 use Rattle.amo_outcome.proofs.block_done.set_of.Given as goal
 
--- a job is in the list where it is in the set or in the rest of the list
+-- a job is in the list if it is in the set or in the rest of the list
 abbrev pub invariant-loop-job : goal.invariant-loop-job
 invariant-loop-job l = record {
   count : length l.set ≡ l.jobs;

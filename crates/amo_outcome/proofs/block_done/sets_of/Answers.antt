@@ -1,3 +1,4 @@
+-- `sets_of`: what its loop keeps, by the lemmas of Zips (amo_crew).
 use Rattle.std.proofs.Common.{ℕ, ◌+◌, List, [], ◌∷◌, ◌++◌, Bool, Vec, Global, take, refl, sym, ap, subst, ◌∙◌}
 use Rattle.std.specs.List.{AllZip}
 use Rattle.std.proofs.lemmas.List.{take_more}

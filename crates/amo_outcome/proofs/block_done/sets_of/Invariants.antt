@@ -1,3 +1,4 @@
+-- The facts that each pass of a loop of `sets_of` keeps.
 use Rattle.std.proofs.Common.{ℕ, Vec, Global, take}
 use Rattle.std.specs.List.{AllZip}
 use Rattle.amo_outcome.specs.Noted.{IsSetOf}

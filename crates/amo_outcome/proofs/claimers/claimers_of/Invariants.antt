@@ -1,3 +1,4 @@
+-- The facts that each pass of a loop of `claimers_of` keeps.
 use Rattle.std.proofs.Common.{◌≡◌, ◌≤◌, ◌+◌, ℕ, None, length, drop}
 use Rattle.std.specs.Option.{option_or}
 use Rattle.amo_sets.specs.Lists.{numbered}

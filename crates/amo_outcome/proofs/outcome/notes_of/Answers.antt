@@ -1,3 +1,4 @@
+-- `notes_of`: its promises, by the lemmas of Fates.
 use Rattle.std.proofs.Common.{ℕ, None, List, Vec, Global, ap, ◌∙◌}
 use Rattle.amo_sets.specs.Lists.{numbered}
 use Rattle.amo_outcome.specs.Became.{Handed, listed, fate_of}

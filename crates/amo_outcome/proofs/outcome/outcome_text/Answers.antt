@@ -1,3 +1,4 @@
+-- `outcome_text`: its promises, by the lemmas of Fates.
 use Rattle.std.proofs.Common.{◌++◌, ap, ◌∙◌}
 use Rattle.amo_outcome.specs.Became.{listed}
 use Rattle.amo_outcome.specs.Noted.{noted_fate}

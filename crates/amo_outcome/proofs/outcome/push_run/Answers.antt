@@ -1,3 +1,4 @@
+-- `push_run`: its promises, by the lemmas of Fates.
 use Rattle.std.proofs.Common.{◌≡◌, ℕ, List, ◌++◌, Vec, Global, string_bytes, length, sum_by, ap, ◌∙◌}
 use Rattle.amo_crew.specs.declared.outcome.End.{End}
 use Rattle.amo_outcome.specs.declared.block_done.BlockDone.{BlockDone}

@@ -1,3 +1,4 @@
+-- The facts that each pass of a loop of `push_ends` keeps.
 use Rattle.std.proofs.Common.{◌≡◌, ◌++◌, ◌+◌, drop, string_bytes}
 use Rattle.amo_outcome.specs.Became.{listed}
 use Rattle.amo_outcome.specs.OutcomeLines.{end_lines}

@@ -1,3 +1,4 @@
+-- The facts that each pass of a loop of `push_jobs` keeps.
 use Rattle.std.proofs.Common.{◌≡◌, ◌++◌, ◌+◌, drop, string_bytes}
 use Rattle.amo_outcome.specs.OutcomeLines.{job_lines}
 use Rattle.amo_outcome.specs.Noted.{noted_fate}

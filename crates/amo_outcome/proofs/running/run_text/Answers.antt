@@ -1,3 +1,4 @@
+-- `run_text`: the premises of its calls and its promises, by the lemmas of Answered.
 use Rattle.amo_plan.specs.PlanSeen.{plan_seen}
 use Rattle.amo_outcome.proofs.Answered.{blocks_are_jobs, fits_heads, is_run_text}
 use Rattle.amo_outcome.proofs.running.run_text.Goals as goal

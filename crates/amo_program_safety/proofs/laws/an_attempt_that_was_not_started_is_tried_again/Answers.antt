@@ -1,3 +1,4 @@
+-- `an_attempt_that_was_not_started_is_tried_again`: its promises, by the lemmas of Witness.
 use Rattle.amo_program_safety.proofs.Witness.{an_attempt_is_given_up}
 use Rattle.amo_program_safety.proofs.laws.an_attempt_that_was_not_started_is_tried_again.Goals as goal
 

@@ -1,3 +1,4 @@
+-- `if_held_attempts_are_answered_a_line_is_performed_twice`: its promises, by the lemmas of Twice.
 use Rattle.amo_program_safety.proofs.Twice.{if_held_attempts_are_answered}
 use Rattle.amo_program_safety.proofs.laws.if_held_attempts_are_answered_a_line_is_performed_twice.Goals as goal
 

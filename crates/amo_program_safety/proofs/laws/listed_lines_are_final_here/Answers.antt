@@ -1,3 +1,4 @@
+-- `listed_lines_are_final_here`: its promises, by the lemmas of Commanding, Final and Forever.
 use Rattle.amo_program_safety.proofs.Commanding.{calls_lead, records_lead}
 use Rattle.amo_program_safety.proofs.Final.{finals_are_final}
 use Rattle.amo_program_safety.proofs.Forever.{doubts_stay_final}

@@ -1,3 +1,4 @@
+-- `programs_perform_each_line_at_most_once`: its promises, by the lemmas of Whole.
 use Rattle.amo_program_safety.proofs.Whole.{performed_once}
 use Rattle.amo_program_safety.proofs.laws.programs_perform_each_line_at_most_once.Goals as goal
 

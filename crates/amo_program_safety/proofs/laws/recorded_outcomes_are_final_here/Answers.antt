@@ -1,3 +1,4 @@
+-- `recorded_outcomes_are_final_here`: its promises, by the lemmas of Keeping and Recording.
 use Rattle.amo_program_safety.proofs.Keeping.{kept_are_final}
 use Rattle.amo_program_safety.proofs.Recording.{recorded_have_ended}
 use Rattle.amo_program_safety.proofs.laws.recorded_outcomes_are_final_here.Goals as goal

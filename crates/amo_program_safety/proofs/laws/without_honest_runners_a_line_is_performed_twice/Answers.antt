@@ -1,3 +1,4 @@
+-- `without_honest_runners_a_line_is_performed_twice`: its promises, by the lemmas of Twice.
 use Rattle.amo_program_safety.proofs.Twice.{without_honest_runners}
 use Rattle.amo_program_safety.proofs.laws.without_honest_runners_a_line_is_performed_twice.Goals as goal
 

@@ -1,3 +1,4 @@
+-- `without_kept_appends_a_line_is_performed_twice`: its promises, by the lemmas of Twice.
 use Rattle.amo_program_safety.proofs.Twice.{without_kept_appends}
 use Rattle.amo_program_safety.proofs.laws.without_kept_appends_a_line_is_performed_twice.Goals as goal
 

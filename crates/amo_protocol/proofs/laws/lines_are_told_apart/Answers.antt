@@ -1,3 +1,4 @@
+-- `lines_are_told_apart`: its promises, by the lemmas of SayingTexts.
 use Rattle.std.specs.Prelude.{codes}
 use Rattle.amo_protocol.proofs.SayingTexts.{told_apart, words_differ, over_differs}
 use Rattle.amo_protocol.proofs.laws.lines_are_told_apart.Goals as goal

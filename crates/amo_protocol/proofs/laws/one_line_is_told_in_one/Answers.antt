@@ -1,3 +1,4 @@
+-- `one_line_is_told_in_one`: its promises, by the lemmas of Words (amo_run_log) and SayingTexts.
 use Rattle.std.proofs.Common.{refl}
 use Rattle.std.specs.Prelude.{codes}
 use Rattle.amo_run_log.proofs.Words.{lacks_by_test}

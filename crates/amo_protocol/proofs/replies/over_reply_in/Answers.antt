@@ -1,3 +1,4 @@
+-- `over_reply_in`: its promises, by the lemmas of ReplyTexts.
 use Rattle.amo_protocol.proofs.ReplyTexts.{way_heard, way_was_said}
 use Rattle.amo_protocol.proofs.replies.over_reply_in.Goals as goal
 

@@ -1,3 +1,4 @@
+-- `reply_in`: its promises, by the lemmas of ReplyTexts.
 use Rattle.amo_protocol.proofs.ReplyTexts.{heard, was_said, somebody}
 use Rattle.amo_protocol.proofs.replies.reply_in.Goals as goal
 

@@ -1,3 +1,4 @@
+-- The facts that each pass of a loop of `push_escaped` keeps.
 use Rattle.std.proofs.Common.{◌≡◌, ◌++◌, take, string_bytes}
 use Rattle.amo_render.specs.Escaped.{escaped}
 use Rattle.amo_render.proofs.escaped.push_escaped.Given as goal

@@ -1,3 +1,4 @@
+-- The facts that each pass of a loop of `push_events` keeps.
 use Rattle.std.proofs.Common.{◌≡◌, ◌++◌, ◌+◌, drop, string_bytes}
 use Rattle.amo_render.specs.EventLines.{event_lines}
 use Rattle.amo_render.proofs.events.push_events.Given as goal

@@ -1,3 +1,4 @@
+-- The facts that each pass of a loop of `state_of` keeps.
 use Rattle.std.proofs.Common.{◌≡◌, drop}
 use Rattle.amo_render.specs.Happened.{state_of}
 use Rattle.amo_render.proofs.events.state_of.Given as goal

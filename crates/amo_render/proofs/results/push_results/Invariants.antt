@@ -1,3 +1,4 @@
+-- The facts that each pass of a loop of `push_results` keeps.
 use Rattle.std.proofs.Common.{◌≡◌, ◌++◌, drop, string_bytes}
 use Rattle.amo_render.specs.Results.{done_results}
 use Rattle.amo_render.proofs.results.push_results.Given as goal

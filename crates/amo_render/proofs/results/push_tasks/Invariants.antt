@@ -1,3 +1,4 @@
+-- The facts that each pass of a loop of `push_tasks` keeps.
 use Rattle.std.proofs.Common.{◌≡◌, ◌++◌, ◌+◌, drop, true, string_bytes}
 use Rattle.amo_plan.specs.Keeps.{all_fit}
 use Rattle.amo_render.specs.Results.{result_lines}

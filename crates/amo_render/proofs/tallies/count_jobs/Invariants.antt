@@ -1,3 +1,4 @@
+-- The facts that each pass of a loop of `count_jobs` keeps.
 use Rattle.std.proofs.Common.{◌≡◌, ◌≤◌, ◌+◌, ◌*◌, drop, sum_by}
 use Rattle.amo_kk.specs.Run.{done_jobs}
 use Rattle.amo_render.specs.Results.{jobs_in_block}

@@ -1,3 +1,4 @@
+-- `push_blocks`: its promises, directly from definitions and clauses.
 use Rattle.std.proofs.Common.{append_assoc}
 use Rattle.amo_render.specs.Tallies.{blocks_words}
 use Rattle.amo_render.proofs.tallies.push_blocks.Goals as goal

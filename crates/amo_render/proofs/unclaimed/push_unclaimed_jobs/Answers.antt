@@ -1,3 +1,4 @@
+-- `push_unclaimed_jobs`: its promises, by the lemmas of Marks.
 use Rattle.std.proofs.Common.{◌≡◌, List, ℕ, Bool, false, OnOk, ap, subst, string_bytes, ◌++◌, ◌∙◌}
 use Rattle.amo_sets.specs.Lists.{numbered}
 use Rattle.amo_render.specs.Numbers.{spaced}

@@ -1,3 +1,4 @@
+-- The facts that each pass of a loop of `push_unmarked` keeps.
 use Rattle.std.proofs.Common.{◌≡◌, ◌++◌, not, false, string_bytes}
 use Rattle.amo_sets.specs.Lists.{numbered}
 use Rattle.amo_sets.specs.Sets.{members}

@@ -1,3 +1,4 @@
+-- `plan_of_bytes`: its promises, directly from definitions and clauses.
 use Rattle.amo_render.proofs.writing.plan_of_bytes.Goals as goal
 
 pub returns-in-Ok-clause-kept : goal.returns-in-Ok-clause-kept

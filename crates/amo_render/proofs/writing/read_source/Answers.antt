@@ -1,3 +1,4 @@
+-- `read_source`: its promises, by the lemmas of Whole.
 use Rattle.std.proofs.Common.{arith}
 use Rattle.amo_render.proofs.Whole.{whole}
 use Rattle.amo_render.proofs.writing.read_source.Goals as goal

@@ -1,3 +1,4 @@
+-- `jobs_have_one_stretch`: its promises, by the lemmas of Once.
 use Rattle.amo_restart.proofs.Once.{one_stretch}
 use Rattle.amo_restart.proofs.laws.jobs_have_one_stretch.Goals as goal
 

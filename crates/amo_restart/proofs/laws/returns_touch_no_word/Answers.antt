@@ -1,3 +1,4 @@
+-- `returns_touch_no_word`: its promises, by the lemmas of Words.
 use Rattle.std.proofs.Common.{refl}
 use Rattle.amo_restart.proofs.Words.{words_stay, own_words, any_moment}
 use Rattle.amo_restart.proofs.laws.returns_touch_no_word.Goals as goal

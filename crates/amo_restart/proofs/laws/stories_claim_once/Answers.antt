@@ -1,3 +1,4 @@
+-- `stories_claim_once`: its promises, by the lemmas of Counts.
 use Rattle.amo_restart.proofs.Counts.{claims_distinct, filed_distinct, filed_has_claim, doubt_has_claim}
 use Rattle.amo_restart.proofs.laws.stories_claim_once.Goals as goal
 

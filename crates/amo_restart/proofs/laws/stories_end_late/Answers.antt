@@ -1,3 +1,4 @@
+-- `stories_end_late`: its promises, by the lemmas of Counts.
 use Rattle.amo_restart.proofs.Counts.{end_is_late, sure_end, few_doubts}
 use Rattle.amo_restart.proofs.laws.stories_end_late.Goals as goal
 

@@ -1,3 +1,4 @@
+-- `tale_is_a_story`: its promises, by the lemmas of Tales.
 use Rattle.amo_restart.proofs.Tales.{always_told}
 use Rattle.amo_restart.proofs.laws.tale_is_a_story.Goals as goal
 

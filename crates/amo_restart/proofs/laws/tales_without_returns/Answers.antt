@@ -1,3 +1,4 @@
+-- `tales_without_returns`: its promises, by the lemmas of Moves.
 use Rattle.std.proofs.Common.{ap}
 use Rattle.amo_restart.specs.declared.model.Tale.{Tale}
 use Rattle.amo_restart.proofs.Moves.{tale_of_moves}

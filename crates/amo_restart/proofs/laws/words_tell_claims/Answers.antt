@@ -1,3 +1,4 @@
+-- `words_tell_claims`: its promises, by the lemmas of Kept, Tales and Filed.
 use Rattle.amo_kk.specs.World.{process}
 use Rattle.amo_restart.proofs.Kept.{entries}
 use Rattle.amo_restart.proofs.Tales.{same}

@@ -1,3 +1,4 @@
+-- `checked_log`: its promises, by the lemmas of KeptCounts (amo_run_files).
 use Rattle.std.proofs.Common.{◌≡◌, ℕ, List, length, sym, ◌∙◌, ap, arith, Option}
 use Rattle.amo_journal.specs.Appends.{IsLog}
 use Rattle.amo_journal.specs.Logs.{checksums_from, checksums_of}

@@ -1,3 +1,4 @@
+-- `extent_in`: what its loop keeps and its promises, by the lemmas of Extents.
 use Rattle.std.proofs.Common.{◌≡◌, ◌+◌, Bool, true, false, cond, List, ℕ, Some, drop, sym, ap, ◌∙◌, arith}
 use Rattle.std.specs.Str.{bytes_eq}
 use Rattle.std.proofs.lemmas.List.{at_drop_all}

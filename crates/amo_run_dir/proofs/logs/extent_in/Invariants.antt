@@ -1,3 +1,4 @@
+-- The facts that each pass of a loop of `extent_in` keeps.
 use Rattle.std.proofs.Common.{◌≡◌, drop}
 use Rattle.amo_run_dir.specs.Known.{extent_named}
 use Rattle.amo_run_dir.proofs.logs.extent_in.Given as goal

@@ -1,3 +1,4 @@
+-- `loss_in`: its promises, directly from definitions and clauses.
 use Rattle.std.proofs.Common.{◌≡◌, ◌<◌, ◌≤◌, false, length, inl, inr, sym, subst, arith}
 use Rattle.std.proofs.lemmas.Bool.{cases_lt}
 use Rattle.std.proofs.lemmas.List.{length-map}

@@ -1,3 +1,4 @@
+-- The facts that each pass of a loop of `behind_digits` keeps.
 use Rattle.std.proofs.Common.{◌≡◌, drop}
 use Rattle.amo_run_dir.specs.Names.{behind_digits}
 use Rattle.amo_run_dir.proofs.names.behind_digits.Given as goal

@@ -1,3 +1,4 @@
+-- The facts that each pass of a loop of `first_refused` keeps.
 use Rattle.std.proofs.Common.{◌≡◌, drop}
 use Rattle.amo_run_dir.specs.Names.{first_refused}
 use Rattle.amo_run_dir.proofs.names.first_refused.Given as goal

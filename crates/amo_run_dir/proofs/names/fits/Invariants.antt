@@ -1,3 +1,4 @@
+-- The facts that each pass of a loop of `fits` keeps.
 use Rattle.std.proofs.Common.{◌≡◌, drop, Some}
 use Rattle.amo_run_dir.specs.Names.{fits_rest}
 use Rattle.amo_run_dir.proofs.names.fits.Given as goal

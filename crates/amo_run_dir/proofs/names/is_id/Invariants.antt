@@ -1,3 +1,4 @@
+-- The facts that each pass of a loop of `is_id` keeps.
 use Rattle.std.proofs.Common.{◌≡◌, drop}
 use Rattle.amo_run_dir.specs.Names.{are_hex}
 use Rattle.amo_run_dir.proofs.names.is_id.Given as goal

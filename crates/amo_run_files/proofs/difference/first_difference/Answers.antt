@@ -1,3 +1,4 @@
+-- `first_difference`: its promises, by the lemmas of Differences.
 use Rattle.std.proofs.Common.{◌≢◌, ◌<◌, length, get_or, arith}
 use Rattle.amo_run_files.proofs.Differences.{are_there, isnt_there}
 use Rattle.amo_run_files.proofs.difference.first_difference.Goals as goal

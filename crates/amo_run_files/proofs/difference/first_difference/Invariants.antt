@@ -1,3 +1,4 @@
+-- The facts that each pass of a loop of `first_difference` keeps.
 use Rattle.std.proofs.Common.{◌≡◌, ◌+◌, take}
 use Rattle.amo_run_files.proofs.Differences.{line_feeds}
 use Rattle.amo_run_files.proofs.difference.first_difference.Given as goal

@@ -1,3 +1,4 @@
+-- `filled_up`: its promises, by the lemmas of Heads.
 use Rattle.std.proofs.Common.{arith, vec_len}
 use Rattle.amo_run_files.proofs.Heads.{filled}
 use Rattle.amo_run_files.proofs.head.filled_up.Goals as goal

@@ -1,3 +1,4 @@
+-- `head_text`: its promises, by the lemmas of Heads.
 use Rattle.std.proofs.Common.{◌≡◌, ◌++◌, ◌∷◌, [], List, ℕ, codes, decimal, ap, ◌∙◌}
 use Rattle.amo_run_files.proofs.Heads.{pieces}
 use Rattle.amo_run_files.proofs.head.head_text.Goals as goal

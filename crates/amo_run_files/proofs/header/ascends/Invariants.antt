@@ -1,3 +1,4 @@
+-- The facts that each pass of a loop of `ascends` keeps.
 use Rattle.std.proofs.Common.{◌≡◌, drop}
 use Rattle.amo_run_files.specs.Records.{ascends_from}
 use Rattle.amo_run_files.proofs.header.ascends.Given as goal

@@ -1,3 +1,4 @@
+-- The facts that each pass of a loop of `numbers_of` keeps.
 use Rattle.std.proofs.Common.{◌≡◌, ◌++◌, drop, map}
 use Rattle.std.specs.Prelude.{option_map}
 use Rattle.amo_decimal.specs.Numbers.{number_in}

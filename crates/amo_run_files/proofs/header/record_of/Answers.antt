@@ -1,3 +1,4 @@
+-- `record_of`: its promises, by the lemmas of OpenLines (amo_run_log) and Records.
 use Rattle.std.proofs.Common.{◌≡◌, ◌-◌, take, length-drop, List, ℕ, Vec, Global, map, drop, length, sym, ap, ◌∙◌, arith}
 use Rattle.std.specs.Prelude.{codes}
 use Rattle.std.specs.Str.{bytes_eq}

@@ -1,3 +1,4 @@
+-- The facts that each pass of a loop of `texts_of` keeps.
 use Rattle.std.proofs.Common.{◌≡◌, ◌++◌, [], drop, map}
 use Rattle.std.specs.Prelude.{option_map}
 use Rattle.amo_run_files.specs.Records.{texts_from}

@@ -1,3 +1,4 @@
+-- `check`: its promises, by the lemmas of Ends and Refusals.
 use Rattle.std.proofs.Common.{ℕ, ◌+◌, List, length, sym, ap, ◌∙◌, arith}
 use Rattle.amo_run_files.specs.Lines.{lines_in}
 use Rattle.amo_run_files.specs.Refusals.{why_remainder}

@@ -1,3 +1,4 @@
+-- `is_text`: its promises, by the lemmas of KnownLines.
 use Rattle.std.proofs.Common.{◌∙◌}
 use Rattle.amo_run_files.proofs.KnownLines.{text_is}
 use Rattle.amo_run_files.proofs.known.is_text.Goals as goal

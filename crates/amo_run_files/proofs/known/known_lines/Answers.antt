@@ -1,3 +1,4 @@
+-- `known_lines`: what its loop keeps and its promises, by the lemmas of Ends and Refusals.
 use Rattle.std.proofs.Common.{◌≡◌, ◌+◌, ◌<◌, ◌++◌, ◌∷◌, [], ℕ, List, length, take, get_or, Option, Some, None, sym, ap, subst, ◌∙◌, arith, below_more, take_all}
 use Rattle.std.specs.Prelude.{IfNone}
 use Rattle.std.proofs.lemmas.List.{take_more}

@@ -1,3 +1,4 @@
+-- The facts that each pass of a loop of `known_lines` keeps.
 use Rattle.std.proofs.Common.{◌≡◌, ◌<◌, ℕ, [], get_or, take, None}
 use Rattle.amo_run_files.specs.Known.{HasJust}
 use Rattle.amo_run_files.specs.Lines.{lines_in}

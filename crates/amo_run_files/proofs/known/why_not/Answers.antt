@@ -1,3 +1,4 @@
+-- `why_not`: its promises, by the lemmas of KnownLines.
 use Rattle.std.proofs.Common.{sym, ◌∙◌}
 use Rattle.std.specs.BTreeSet.{contains}
 use Rattle.std.proofs.lemmas.Bool.{not-true, not-false}

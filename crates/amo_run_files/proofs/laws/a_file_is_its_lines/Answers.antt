@@ -1,3 +1,4 @@
+-- `a_file_is_its_lines`: its promises, by the lemmas of Cuts.
 use Rattle.amo_run_files.proofs.Cuts.{whole, lacking, only}
 use Rattle.amo_run_files.proofs.laws.a_file_is_its_lines.Goals as goal
 

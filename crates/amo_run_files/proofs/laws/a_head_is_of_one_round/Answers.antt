@@ -1,3 +1,4 @@
+-- `a_head_is_of_one_round`: its promises, by the lemmas of HeadLaws.
 use Rattle.amo_run_files.proofs.HeadLaws.{one_round}
 use Rattle.amo_run_files.proofs.laws.a_head_is_of_one_round.Goals as goal
 

@@ -1,3 +1,4 @@
+-- `lines_keep_their_numbers`: its promises, by the lemmas of Cuts.
 use Rattle.amo_run_files.proofs.Cuts.{keep_numbers}
 use Rattle.amo_run_files.proofs.laws.lines_keep_their_numbers.Goals as goal
 

@@ -1,3 +1,4 @@
+-- `round_files_are_read_back`: its promises, by the lemmas of RoundFileTexts.
 use Rattle.amo_run_files.proofs.RoundFileTexts.{file_reads, file_printed}
 use Rattle.amo_run_files.proofs.laws.round_files_are_read_back.Goals as goal
 

@@ -1,3 +1,4 @@
+-- `what_first_lines_are`: its promises, by the lemmas of Cuts.
 use Rattle.amo_run_files.proofs.Cuts.{first_ended, first_whole}
 use Rattle.amo_run_files.proofs.laws.what_first_lines_are.Goals as goal
 

@@ -1,3 +1,4 @@
+-- `what_keeps_a_count`: its promises, by the lemmas of KeptCounts.
 use Rattle.amo_run_files.proofs.KeptCounts.{keeps, fewer, differs}
 use Rattle.amo_run_files.proofs.laws.what_keeps_a_count.Goals as goal
 

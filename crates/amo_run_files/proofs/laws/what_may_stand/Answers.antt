@@ -1,3 +1,4 @@
+-- `what_may_stand`: its promises, by the lemmas of Refusals.
 use Rattle.amo_run_files.proofs.Refusals.{may, must}
 use Rattle.amo_run_files.proofs.laws.what_may_stand.Goals as goal
 

@@ -1,3 +1,4 @@
+-- `who_has_which_seat`: its promises, by the lemmas of SeatLaws.
 use Rattle.amo_run_files.proofs.SeatLaws.{one_each, in_range, first_seat, each_taken}
 use Rattle.amo_run_files.proofs.laws.who_has_which_seat.Goals as goal
 

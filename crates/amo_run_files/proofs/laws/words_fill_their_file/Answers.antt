@@ -1,3 +1,4 @@
+-- `words_fill_their_file`: its promises, by the lemmas of Counts.
 use Rattle.std.proofs.Common.{ℕ, ◌+◌, ◌*◌, ap, ◌∙◌}
 use Rattle.amo_run_files.proofs.Counts.{many}
 use Rattle.amo_run_files.proofs.laws.words_fill_their_file.Goals as goal

@@ -1,3 +1,4 @@
+-- `ends_in`: its promises, by the lemmas of Ends.
 use Rattle.std.proofs.Common.{◌++◌, List, ℕ, sym, ap, ◌∙◌, append-nil}
 use Rattle.std.proofs.lemmas.List.{at_drop_all}
 use Rattle.amo_run_files.proofs.Ends.{ends_from, ends_in_are}

@@ -1,3 +1,4 @@
+-- The facts that each pass of a loop of `ends_in` keeps.
 use Rattle.std.proofs.Common.{◌≡◌, ◌++◌, drop}
 use Rattle.amo_run_files.proofs.Ends.{ends_from}
 use Rattle.amo_run_files.proofs.lines.ends_in.Given as goal

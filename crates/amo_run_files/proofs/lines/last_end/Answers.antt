@@ -1,3 +1,4 @@
+-- `last_end`: its promises, by the lemmas of Ends.
 use Rattle.std.proofs.Common.{ℕ, ◌-◌, List, Option, length, get_or, unwrap_or, ap, ◌∙◌, arith}
 use Rattle.amo_run_files.proofs.Ends.{last_at}
 use Rattle.amo_run_files.proofs.lines.last_end.Goals as goal

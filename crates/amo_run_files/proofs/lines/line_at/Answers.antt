@@ -1,3 +1,4 @@
+-- `line_at`: that its numbers fit, that its places exist and its promises, by the lemmas of Ends.
 use Rattle.std.proofs.Common.{get_or, arith}
 use Rattle.amo_run_files.proofs.Ends.{IsLineFrom, line_part}
 use Rattle.amo_run_files.proofs.lines.line_at.Goals as goal

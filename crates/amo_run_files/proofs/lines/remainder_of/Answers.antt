@@ -1,3 +1,4 @@
+-- `remainder_of`: the premises of its calls and its promises, by the lemmas of Ends.
 use Rattle.std.proofs.Common.{◌∙◌}
 use Rattle.amo_run_files.specs.Lines.{lines_in}
 use Rattle.amo_run_files.proofs.Ends.{remainder_from_end}

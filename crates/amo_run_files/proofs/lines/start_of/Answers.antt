@@ -1,3 +1,4 @@
+-- `start_of`: its promises, by the lemmas of Ends.
 use Rattle.std.proofs.Common.{ℕ, ◌-◌, List, length, get_or, ap, ◌∙◌, arith}
 use Rattle.amo_run_files.proofs.Ends.{length_ends, begin_at}
 use Rattle.amo_run_files.proofs.lines.start_of.Goals as goal

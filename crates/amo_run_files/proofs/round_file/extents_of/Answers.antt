@@ -1,3 +1,4 @@
+-- `extents_of`: what its loop keeps, by the lemmas of RoundFileTexts.
 use Rattle.std.proofs.Common.{sym, ap, ◌∙◌}
 use Rattle.std.specs.Prelude.{option_map}
 use Rattle.amo_run_files.specs.Extents.{extent_said, extent_in}

@@ -1,3 +1,4 @@
+-- The facts that each pass of a loop of `extents_of` keeps.
 use Rattle.std.proofs.Common.{◌≡◌, ◌++◌, drop, map}
 use Rattle.std.specs.Prelude.{option_map}
 use Rattle.amo_run_log.specs.Numbers.{read_all}

@@ -1,3 +1,5 @@
+-- `judge_run`: the premises of its calls, what its loop keeps and its promises, by the lemmas of
+-- Runs.
 use Rattle.std.proofs.Common.{map, slice_index_or, subst, take, ◌∙◌}
 use Rattle.amo_clearance_safety.specs.Runs.{site_of}
 use Rattle.amo_run_judge.specs.Events.{event_of}

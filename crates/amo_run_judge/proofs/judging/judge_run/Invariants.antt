@@ -1,3 +1,4 @@
+-- The facts that each pass of a loop of `judge_run` keeps.
 use Rattle.std.proofs.Common.{map, take}
 use Rattle.amo_clearance_safety.specs.Runs.{Clearance, IsRun, site_of}
 use Rattle.amo_givens.specs.declared.limits.TheConstants.{MAX_WORKERS}

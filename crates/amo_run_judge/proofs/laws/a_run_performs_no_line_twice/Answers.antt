@@ -1,3 +1,4 @@
+-- `a_run_performs_no_line_twice`: its promises, directly from definitions and clauses.
 use Rattle.amo_givens.specs.declared.limits.TheConstants.{MAX_WORKERS}
 use Rattle.amo_run_judge.proofs.laws.a_run_performs_no_line_twice.Goals as goal
 

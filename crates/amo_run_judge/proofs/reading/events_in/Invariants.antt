@@ -1,3 +1,4 @@
+-- The facts that each pass of a loop of `events_in` keeps.
 use Rattle.std.proofs.Common.{◌≡◌, [], drop, length, map}
 use Rattle.amo_run_judge.specs.Reading.{events_from}
 use Rattle.amo_run_judge.proofs.reading.events_in.Given as goal

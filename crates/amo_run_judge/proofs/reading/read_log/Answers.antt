@@ -1,3 +1,4 @@
+-- `read_log`: its promises, by the lemmas of Logs.
 use Rattle.std.proofs.Common.{ℕ, List, map, Bor, ap, ◌∙◌}
 use Rattle.std.proofs.lemmas.Result.{IfOk-weaker}
 use Rattle.amo_run_judge.proofs.Logs.{read_is}

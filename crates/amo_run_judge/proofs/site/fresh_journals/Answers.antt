@@ -1,3 +1,4 @@
+-- `fresh_journals`: what its loop keeps, by the lemmas of Steps.
 use Rattle.std.proofs.Common.{sym, subst}
 use Rattle.amo_run_judge.specs.Seen.{AreFresh}
 use Rattle.amo_run_judge.proofs.Steps.{fresh_more, one_longer}

@@ -1,3 +1,4 @@
+-- The facts that each pass of a loop of `fresh_journals` keeps.
 use Rattle.std.proofs.Common.{◌≡◌, length}
 use Rattle.amo_run_judge.specs.Seen.{AreFresh}
 use Rattle.amo_run_judge.proofs.site.fresh_journals.Given as goal

@@ -1,3 +1,4 @@
+-- `log_text`: the premises of its calls and its promises, directly from definitions and clauses.
 use Rattle.std.proofs.lemmas.Result.{IfOk-weaker}
 use Rattle.amo_run_judge.proofs.telling.log_text.Goals as goal
 

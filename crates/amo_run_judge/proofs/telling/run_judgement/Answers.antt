@@ -1,3 +1,4 @@
+-- `run_judgement`: its promises, by the lemmas of Outcomes.
 use Rattle.std.proofs.Common.{string_bytes, subst}
 use Rattle.std.proofs.lemmas.Result.{IfOk-weaker}
 use Rattle.amo_run_judge.specs.Judgement.{IsRead}

@@ -1,3 +1,5 @@
+-- `verdict_text`: the premises of its calls, that its places exist and its promises, by the lemmas
+-- of Outcomes.
 use Rattle.std.proofs.Common.{map, string_bytes, subst, arith}
 use Rattle.std.proofs.lemmas.Result.{IfOk-weaker}
 use Rattle.amo_run_judge.specs.Against.{IsVerdictOn}

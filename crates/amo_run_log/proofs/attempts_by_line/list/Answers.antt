@@ -1,3 +1,4 @@
+-- `list`: its promises, by the lemmas of ByLine.
 use Rattle.std.proofs.Common.{◌-◌, ◌<◌, [], List, length, set, sym, subst, arith}
 use Rattle.std.proofs.lemmas.List.{length-map}
 use Rattle.amo_run_log.specs.declared.clearance.AttemptId.{AttemptId}

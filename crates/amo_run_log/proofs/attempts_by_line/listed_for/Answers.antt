@@ -1,3 +1,4 @@
+-- `listed_for`: its promises, by the lemmas of ByLine.
 use Rattle.std.proofs.Common.{◌∙◌, arith}
 use Rattle.amo_run_log.proofs.ByLine.{listed_at}
 use Rattle.amo_run_log.proofs.attempts_by_line.listed_for.Goals as goal

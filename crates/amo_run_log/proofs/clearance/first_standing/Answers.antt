@@ -1,3 +1,4 @@
+-- `first_standing`: what its loop keeps, by the lemmas of ByLine.
 use Rattle.std.proofs.Common.{arith}
 use Rattle.amo_run_log.proofs.ByLine.{attempts_in, from_more}
 use Rattle.amo_run_log.proofs.clearance.first_standing.Goals as goal

@@ -1,3 +1,4 @@
+-- The facts that each pass of a loop of `first_standing` keeps.
 use Rattle.std.proofs.Common.{map, take}
 use Rattle.std.specs.Prelude.{IfSome}
 use Rattle.amo_run_log.specs.Clearance.{IsStanding}

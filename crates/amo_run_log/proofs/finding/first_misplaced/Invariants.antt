@@ -1,3 +1,4 @@
+-- The facts that each pass of a loop of `first_misplaced` keeps.
 use Rattle.std.proofs.Common.{◌≡◌, ◌<◌, ℕ, true, map, take, Some}
 use Rattle.std.specs.Prelude.{slice_get}
 use Rattle.amo_run_log.specs.Findings.{may_join}

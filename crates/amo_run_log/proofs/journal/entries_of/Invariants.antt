@@ -1,3 +1,4 @@
+-- The facts that each pass of a loop of `entries_of` keeps.
 use Rattle.std.proofs.Common.{◌≡◌, take}
 use Rattle.amo_run_log.specs.Entries.{entries_of_appends}
 use Rattle.amo_run_log.proofs.journal.entries_of.Given as goal

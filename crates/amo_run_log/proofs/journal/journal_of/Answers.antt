@@ -1,3 +1,4 @@
+-- `journal_of`: what its loop keeps and its promises, by the lemmas of AttemptLemmas.
 use Rattle.std.proofs.Common.{◌≡◌, ◌≢◌, ◌+◌, ◌-◌, ◌∙◌, None, take, subst, sym, arith}
 use Rattle.amo_run_log.specs.Journals.{journal_of}
 use Rattle.amo_run_log.proofs.AttemptLemmas.{journal_more, is_noted, isnt_noted}

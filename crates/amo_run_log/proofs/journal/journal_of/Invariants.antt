@@ -1,3 +1,4 @@
+-- The facts that each pass of a loop of `journal_of` keeps.
 use Rattle.std.proofs.Common.{◌≡◌, take, Some}
 use Rattle.amo_run_log.specs.Journals.{journal_of}
 use Rattle.amo_run_log.proofs.journal.journal_of.Given as goal

@@ -1,3 +1,4 @@
+-- The facts that each pass of a loop of `pending` keeps.
 use Rattle.std.proofs.Common.{◌≡◌, ◌+◌, ◌++◌, drop}
 use Rattle.amo_run_log.specs.Journals.{pending_from}
 use Rattle.amo_run_log.proofs.journal.pending.Given as goal

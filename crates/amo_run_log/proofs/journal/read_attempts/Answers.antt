@@ -1,3 +1,4 @@
+-- `read_attempts`: what its loop keeps and its promises, by the lemmas of AttemptTexts.
 use Rattle.std.proofs.Common.{sym, ap, ◌∙◌}
 use Rattle.amo_run_log.specs.Entries.{append_in}
 use Rattle.amo_run_log.proofs.AttemptTexts.{notes_on, refused_there, refused_unread}

@@ -1,3 +1,4 @@
+-- The facts that each pass of a loop of `read_attempts` keeps.
 use Rattle.std.proofs.Common.{◌≡◌, map, take, Some}
 use Rattle.amo_run_log.specs.Journals.{attempts_in}
 use Rattle.amo_run_log.proofs.journal.read_attempts.Given as goal

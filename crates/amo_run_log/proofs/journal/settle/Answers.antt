@@ -1,3 +1,4 @@
+-- `settle`: its promises, by the lemmas of AttemptLemmas.
 use Rattle.std.proofs.Common.{◌-◌, sym, ap, ◌∙◌, None, arith}
 use Rattle.amo_run_log.specs.declared.journal.Attempt.{Attempt}
 use Rattle.amo_run_log.specs.Journals.{answered_to}

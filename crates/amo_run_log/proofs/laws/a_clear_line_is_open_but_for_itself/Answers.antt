@@ -1,3 +1,4 @@
+-- `a_clear_line_is_open_but_for_itself`: its promises, by the lemmas of ClearLaws.
 use Rattle.amo_run_log.proofs.ClearLaws.{law_open_without, law_clear_with}
 use Rattle.amo_run_log.proofs.laws.a_clear_line_is_open_but_for_itself.Goals as goal
 

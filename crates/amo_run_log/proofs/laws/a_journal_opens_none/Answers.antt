@@ -1,3 +1,4 @@
+-- `a_journal_opens_none`: its promises, by the lemmas of ClosingWins.
 use Rattle.amo_run_log.proofs.ClosingWins.{law_journal}
 use Rattle.amo_run_log.proofs.laws.a_journal_opens_none.Goals as goal
 

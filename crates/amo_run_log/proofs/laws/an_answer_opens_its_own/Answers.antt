@@ -1,3 +1,4 @@
+-- `an_answer_opens_its_own`: its promises, by the lemmas of ClosingWins.
 use Rattle.amo_run_log.proofs.ClosingWins.{law_own}
 use Rattle.amo_run_log.proofs.laws.an_answer_opens_its_own.Goals as goal
 

@@ -1,3 +1,4 @@
+-- `an_intent_closes`: its promises, by the lemmas of ClosingWins.
 use Rattle.amo_run_log.proofs.ClosingWins.{law_closes}
 use Rattle.amo_run_log.proofs.laws.an_intent_closes.Goals as goal
 

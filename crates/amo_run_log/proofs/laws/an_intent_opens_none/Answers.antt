@@ -1,3 +1,4 @@
+-- `an_intent_opens_none`: its promises, by the lemmas of ClosingWins.
 use Rattle.amo_run_log.proofs.ClosingWins.{law_intent}
 use Rattle.amo_run_log.proofs.laws.an_intent_opens_none.Goals as goal
 

@@ -1,3 +1,4 @@
+-- `an_intent_stays`: its promises, by the lemmas of ClosingWins.
 use Rattle.std.proofs.Common.{[], refl}
 use Rattle.amo_run_log.proofs.ClosingWins.{has_more}
 use Rattle.amo_run_log.proofs.laws.an_intent_stays.Goals as goal

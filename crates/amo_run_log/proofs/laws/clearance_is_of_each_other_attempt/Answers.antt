@@ -1,3 +1,4 @@
+-- `clearance_is_of_each_other_attempt`: its promises, by the lemmas of ClearLaws.
 use Rattle.amo_run_log.proofs.ClearLaws.{law_clear, law_is_clear}
 use Rattle.amo_run_log.proofs.laws.clearance_is_of_each_other_attempt.Goals as goal
 

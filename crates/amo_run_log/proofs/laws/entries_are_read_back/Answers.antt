@@ -1,3 +1,4 @@
+-- `entries_are_read_back`: its promises, by the lemmas of AppendTexts.
 use Rattle.amo_run_log.proofs.AppendTexts.{entries_read, entries_printed, same_appends}
 use Rattle.amo_run_log.proofs.laws.entries_are_read_back.Goals as goal
 

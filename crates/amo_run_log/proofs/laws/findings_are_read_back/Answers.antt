@@ -1,3 +1,4 @@
+-- `findings_are_read_back`: its promises, by the lemmas of FindingTexts and TextLists.
 use Rattle.amo_run_log.specs.Findings.{text_of_finding, FitsFinding, finding_in}
 use Rattle.amo_run_log.proofs.FindingTexts.{finding_reads, finding_printed}
 use Rattle.amo_run_log.proofs.TextLists.{reads_back, was_printed}

@@ -1,3 +1,4 @@
+-- `missed_answers_open_none`: its promises, by the lemmas of ClosingWins.
 use Rattle.amo_run_log.proofs.ClosingWins.{law_missed}
 use Rattle.amo_run_log.proofs.laws.missed_answers_open_none.Goals as goal
 

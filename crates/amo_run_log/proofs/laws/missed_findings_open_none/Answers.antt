@@ -1,3 +1,4 @@
+-- `missed_findings_open_none`: its promises, by the lemmas of FindingLaws.
 use Rattle.amo_run_log.proofs.FindingLaws.{law_findings}
 use Rattle.amo_run_log.proofs.laws.missed_findings_open_none.Goals as goal
 

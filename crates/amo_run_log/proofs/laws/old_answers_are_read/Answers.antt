@@ -1,3 +1,4 @@
+-- `old_answers_are_read`: its promises, by the lemmas of OldAnswers.
 use Rattle.amo_run_log.proofs.OldAnswers.{old_doubt, old_untouched, entry_stays}
 use Rattle.amo_run_log.proofs.laws.old_answers_are_read.Goals as goal
 

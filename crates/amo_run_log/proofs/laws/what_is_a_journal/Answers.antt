@@ -1,3 +1,4 @@
+-- `what_is_a_journal`: its promises, by the lemmas of GrammarLaws.
 use Rattle.amo_run_log.proofs.GrammarLaws.{law_journal, law_is_journal}
 use Rattle.amo_run_log.proofs.laws.what_is_a_journal.Goals as goal
 

@@ -1,3 +1,4 @@
+-- `what_is_open`: its promises, by the lemmas of OpenMeaning.
 use Rattle.amo_run_log.proofs.OpenMeaning.{law_open, law_is_open}
 use Rattle.amo_run_log.proofs.laws.what_is_open.Goals as goal
 

@@ -1,3 +1,4 @@
+-- `what_is_opened_stays_clear`: its promises, by the lemmas of ClearLaws.
 use Rattle.amo_run_log.proofs.ClearLaws.{law_findings, law_entries}
 use Rattle.amo_run_log.proofs.laws.what_is_opened_stays_clear.Goals as goal
 

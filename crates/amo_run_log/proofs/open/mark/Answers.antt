@@ -1,3 +1,4 @@
+-- `mark`: what its loop keeps, by the lemmas of OpenLines.
 use Rattle.std.proofs.Common.{false, get_or, arith}
 use Rattle.amo_run_log.proofs.OpenLines.{marked}
 use Rattle.amo_run_log.proofs.open.mark.Goals as goal

@@ -1,3 +1,4 @@
+-- The facts that each pass of a loop of `mark` keeps.
 use Rattle.std.proofs.Common.{◌≡◌, ℕ, ◌+◌, ◌<◌, ◌||◌, false, length, get_or, drop}
 use Rattle.amo_run_log.specs.Open.{any_closes}
 use Rattle.amo_run_log.proofs.open.mark.Given as goal

@@ -1,3 +1,4 @@
+-- `mark_all`: what its loop keeps, by the lemmas of OpenLines.
 use Rattle.std.proofs.Common.{◌≡◌, ◌∙◌, ◌+◌, ◌||◌, false, get_or, ap, arith}
 use Rattle.amo_run_log.specs.Open.{any_closes}
 use Rattle.amo_run_log.proofs.OpenLines.{marked_by}

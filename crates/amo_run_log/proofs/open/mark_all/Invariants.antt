@@ -1,3 +1,4 @@
+-- The facts that each pass of a loop of `mark_all` keeps.
 use Rattle.std.proofs.Common.{◌≡◌, ℕ, ◌+◌, ◌<◌, ◌||◌, false, length, get_or, drop, map}
 use Rattle.amo_run_log.specs.Open.{closed_by}
 use Rattle.amo_run_log.proofs.open.mark_all.Given as goal

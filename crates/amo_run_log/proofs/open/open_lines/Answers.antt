@@ -1,3 +1,4 @@
+-- `open_lines`: its promises, by the lemmas of OpenLines.
 use Rattle.std.proofs.Common.{◌≡◌, ℕ, ◌+◌, ◌<◌, ◌||◌, false, List, Vec, Global, length, get_or, map, replicate, rules, ap, ◌∙◌, arith}
 use Rattle.std.specs.Prelude.{not}
 use Rattle.std.specs.List.{filter}

@@ -1,3 +1,4 @@
+-- `unmarked`: what its loop keeps, by the lemmas of OpenLines.
 use Rattle.std.proofs.Common.{◌∙◌, ◌+◌, ◌++◌, ◌∷◌, [], sym, ap}
 use Rattle.amo_run_log.proofs.OpenLines.{pushed, passed_over}
 use Rattle.amo_run_log.proofs.open.unmarked.Goals as goal

@@ -1,3 +1,4 @@
+-- The facts that each pass of a loop of `unmarked` keeps.
 use Rattle.std.proofs.Common.{◌≡◌, ℕ, ◌+◌, ◌<◌, Bool, false, length, get_or}
 use Rattle.std.specs.Prelude.{not}
 use Rattle.std.specs.List.{filter}

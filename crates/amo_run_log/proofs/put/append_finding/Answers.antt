@@ -1,3 +1,5 @@
+-- `append_finding`: the premises of its calls and its promises, by the lemmas of Journaling
+-- (amo_journal), FindingTexts and Puts.
 use Rattle.std.proofs.Common.{◌≡◌, ℕ, List, Some, sym, ap, subst, ◌∙◌}
 use Rattle.amo_journal.specs.Appends.{records_in}
 use Rattle.amo_journal.specs.Device.{LeavesOnly}

@@ -1,3 +1,4 @@
+-- `read_each`: what its loop keeps and its promises, by the lemmas of TextLists.
 use Rattle.std.proofs.Common.{Some, sym, ap, ◌∙◌, arith}
 use Rattle.amo_run_log.proofs.TextLists.{reads_on, stops_at}
 use Rattle.amo_run_log.proofs.reading.read_each.Goals as goal

@@ -1,3 +1,4 @@
+-- The facts that each pass of a loop of `read_each` keeps.
 use Rattle.std.proofs.Common.{◌≡◌, map, take, Some}
 use Rattle.amo_run_log.specs.Numbers.{read_all}
 use Rattle.amo_run_log.proofs.reading.read_each.Given as goal

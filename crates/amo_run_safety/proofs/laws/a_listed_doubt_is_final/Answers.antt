@@ -1,3 +1,4 @@
+-- `a_listed_doubt_is_final`: its promises, by the lemmas of Begun.
 use Rattle.amo_run_safety.proofs.Begun.{listed_is_final, listed_sends, listed_arrives}
 use Rattle.amo_run_safety.proofs.laws.a_listed_doubt_is_final.Goals as goal
 

@@ -1,3 +1,4 @@
+-- `a_taken_intent_is_over`: its promises, by the lemmas of Taken.
 use Rattle.amo_run_safety.proofs.Taken.{taken_is_over}
 use Rattle.amo_run_safety.proofs.laws.a_taken_intent_is_over.Goals as goal
 

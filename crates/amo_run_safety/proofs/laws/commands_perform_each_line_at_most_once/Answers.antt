@@ -1,3 +1,4 @@
+-- `commands_perform_each_line_at_most_once`: its promises, by the lemmas of Begun.
 use Rattle.amo_run_safety.proofs.Begun.{performed_once, begun_once}
 use Rattle.amo_run_safety.proofs.laws.commands_perform_each_line_at_most_once.Goals as goal
 

@@ -1,3 +1,4 @@
+-- `each_lock_is_needed`: its promises, by the lemmas of Needed.
 use Rattle.amo_run_safety.proofs.Needed.{processes_actions, are_processes_actions, processes_truth, processes_patience, processes_lines, runners_actions, are_runners_actions, runners_truth, runners_patience, runners_lines, commands_actions, are_commands_actions, commands_truth, commands_patience, commands_lines, asking_actions, are_asking_actions, asking_truth, asking_patience, asking_lines, false_actions, are_false_actions, false_patience, false_lines}
 use Rattle.amo_run_safety.proofs.laws.each_lock_is_needed.Goals as goal
 

@@ -1,3 +1,4 @@
+-- `ended_puts_are_events`: its promises, by the lemmas of Shown.
 use Rattle.amo_run_safety.proofs.Shown.{ended_shown}
 use Rattle.amo_run_safety.proofs.laws.ended_puts_are_events.Goals as goal
 

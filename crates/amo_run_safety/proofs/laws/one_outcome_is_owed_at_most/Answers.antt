@@ -1,3 +1,4 @@
+-- `one_outcome_is_owed_at_most`: its promises, by the lemmas of Debts.
 use Rattle.amo_run_safety.proofs.Debts.{one_at_most, only_inside}
 use Rattle.amo_run_safety.proofs.laws.one_outcome_is_owed_at_most.Goals as goal
 

@@ -1,3 +1,4 @@
+-- `outcomes_are_owed_until_they_are_appended`: its promises, by the lemmas of Example and Owing.
 use Rattle.std.proofs.Common.{refl}
 use Rattle.amo_run_safety.proofs.Example.{pending}
 use Rattle.amo_run_safety.proofs.Owing.{answered, asked_again, lost_run, known, paid_run, first_done, next_run}

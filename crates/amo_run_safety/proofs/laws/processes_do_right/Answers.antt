@@ -1,3 +1,4 @@
+-- `processes_do_right`: its promises, by the lemmas of Right.
 use Rattle.amo_run_safety.proofs.Right.{call_may_come, deed_may_come}
 use Rattle.amo_run_safety.proofs.laws.processes_do_right.Goals as goal
 

@@ -1,3 +1,4 @@
+-- `puts_are_there_or_not`: its promises, by the lemmas of Shown.
 use Rattle.amo_run_safety.proofs.Shown.{put_shown, finding_shown}
 use Rattle.amo_run_safety.proofs.laws.puts_are_there_or_not.Goals as goal
 

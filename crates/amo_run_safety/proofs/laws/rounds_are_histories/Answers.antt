@@ -1,3 +1,4 @@
+-- `rounds_are_histories`: its promises, by the lemmas of Once.
 use Rattle.amo_run_safety.proofs.Once.{round_history}
 use Rattle.amo_run_safety.proofs.laws.rounds_are_histories.Goals as goal
 

@@ -1,3 +1,4 @@
+-- `settled_journals_are_kept`: its promises, by the lemmas of Shown.
 use Rattle.amo_run_safety.proofs.Shown.{rest_shown}
 use Rattle.amo_run_safety.proofs.laws.settled_journals_are_kept.Goals as goal
 

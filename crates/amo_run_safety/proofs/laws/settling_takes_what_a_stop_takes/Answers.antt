@@ -1,3 +1,4 @@
+-- `settling_takes_what_a_stop_takes`: its promises, by the lemmas of Shown.
 use Rattle.amo_run_safety.proofs.Shown.{settling_shown, kept_settling_shown}
 use Rattle.amo_run_safety.proofs.laws.settling_takes_what_a_stop_takes.Goals as goal
 

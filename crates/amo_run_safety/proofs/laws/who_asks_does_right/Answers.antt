@@ -1,3 +1,4 @@
+-- `who_asks_does_right`: its promises, by the lemmas of Asks.
 use Rattle.amo_run_safety.proofs.Asks.{stands_by_asker}
 use Rattle.amo_run_safety.proofs.laws.who_asks_does_right.Goals as goal
 

@@ -1,3 +1,4 @@
+-- The facts that each pass of a loop of `use_sets` keeps.
 use Rattle.std.proofs.Common.{◌≡◌, length}
 use Rattle.amo_sets_tests.proofs.tests.use_sets.Given as goal
 

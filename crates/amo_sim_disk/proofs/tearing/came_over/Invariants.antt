@@ -1,3 +1,4 @@
+-- The facts that each pass of a loop of `came_over` keeps.
 use Rattle.std.proofs.Common.{◌≡◌, ℕ, Some, length, slice_get}
 use Rattle.amo_sim_disk.specs.Tearing.{IsOldOrNew}
 use Rattle.amo_sim_disk.proofs.tearing.came_over.Given as goal

@@ -1,3 +1,4 @@
+-- `image_of`: its promises, by the lemmas of Possible.
 use Rattle.std.proofs.Common.{◌≡◌, sym, ◌∙◌, ap, subst}
 use Rattle.amo_sim_disk.specs.declared.call.Call.{Call}
 use Rattle.amo_sim_disk.specs.Calls.{read_after}

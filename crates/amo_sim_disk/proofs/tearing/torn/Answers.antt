@@ -1,3 +1,4 @@
+-- `torn`: its promises, by the lemmas of Torn.
 use Rattle.std.proofs.Common.{◌≡◌, ℕ, List, sym, ◌∙◌, ap, subst}
 use Rattle.std.proofs.lemmas.Result.{IfOk-weaker}
 use Rattle.amo_journal.specs.Device.{Torn}

@@ -1,3 +1,4 @@
+-- `push_found`: its promises, directly from definitions and clauses.
 use Rattle.amo_state_space.specs.Answer.{found_text}
 use Rattle.amo_state_space.proofs.answer.push_found.Goals as goal
 

@@ -1,3 +1,4 @@
+-- The facts that each pass of a loop of `push_spaced` keeps.
 use Rattle.std.proofs.Common.{◌≡◌, ◌++◌, take, string_bytes}
 use Rattle.amo_render.specs.Numbers.{spaced}
 use Rattle.amo_state_space.proofs.answer.push_spaced.Given as goal

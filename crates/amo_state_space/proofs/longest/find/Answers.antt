@@ -1,3 +1,4 @@
+-- `find`: its promises, by the lemmas of Way.
 use Rattle.amo_state_space.proofs.Way.{whole_from_birth}
 use Rattle.amo_state_space.proofs.longest.find.Goals as goal
 

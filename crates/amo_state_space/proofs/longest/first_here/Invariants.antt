@@ -1,3 +1,4 @@
+-- The facts that each pass of a loop of `first_here` keeps.
 use Rattle.std.proofs.Common.{◌≡◌, ℕ, ◌≤◌, true}
 use Rattle.amo_kk.specs.World.{process}
 use Rattle.amo_state_space.proofs.longest.first_here.Given as goal

@@ -1,3 +1,4 @@
+-- `longest_turns`: what its loop keeps and its promises, by the lemmas of Way.
 use Rattle.amo_state_space.proofs.Way.{way_more, way_less, way_whole, next_here, next_none}
 use Rattle.amo_state_space.proofs.longest.longest_turns.Goals as goal
 

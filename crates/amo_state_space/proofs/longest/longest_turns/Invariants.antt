@@ -1,3 +1,4 @@
+-- The facts that each pass of a loop of `longest_turns` keeps.
 use Rattle.std.proofs.Common.{◌-◌, length}
 use Rattle.amo_state_space.proofs.Left.{most_taken}
 use Rattle.amo_state_space.proofs.Way.{IsOnTheWay}

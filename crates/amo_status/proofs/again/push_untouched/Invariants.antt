@@ -1,3 +1,4 @@
+-- The facts that each pass of a loop of `push_untouched` keeps.
 use Rattle.std.proofs.Common.{◌≡◌, ◌+◌, ◌++◌, drop}
 use Rattle.amo_status.specs.Answers.{untouched_in}
 use Rattle.amo_status.proofs.again.push_untouched.Given as goal

@@ -1,3 +1,4 @@
+-- The facts that each pass of a loop of `untouched` keeps.
 use Rattle.std.proofs.Common.{◌≡◌, ◌+◌, ◌++◌, drop, map}
 use Rattle.amo_status.specs.Answers.{untouched_of}
 use Rattle.amo_status.proofs.again.untouched.Given as goal

@@ -1,3 +1,4 @@
+-- `may_answer`: its promises, by the lemmas of Quiets.
 use Rattle.std.proofs.Common.{Vec, Global, map}
 use Rattle.amo_run_log.specs.declared.journal.Attempt.{Attempt}
 use Rattle.amo_status.proofs.Quiets.{taken_now}

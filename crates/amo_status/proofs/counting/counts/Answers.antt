@@ -1,3 +1,4 @@
+-- `counts`: its promises, by the lemmas of OneKind.
 use Rattle.std.proofs.Common.{arith}
 use Rattle.amo_status.proofs.OneKind.{all_counted}
 use Rattle.amo_status.proofs.counting.counts.Goals as goal

@@ -1,3 +1,4 @@
+-- `an_answer_settles`: its promises, by the lemmas of Quiets and Settling.
 use Rattle.amo_status.specs.declared.refusal.Refusal.TheVariants.{AnsweredOtherwise, AnsweredSo}
 use Rattle.amo_status.specs.Answers.{contrary, with_answer}
 use Rattle.amo_status.proofs.Quiets.{refused_now}

@@ -1,3 +1,4 @@
+-- `answers_are_read_back`: its promises, by the lemmas of TextLists (amo_run_log) and SaidTexts.
 use Rattle.std.proofs.Common.{map, ap, ◌∙◌}
 use Rattle.amo_run_log.specs.Numbers.{read_all}
 use Rattle.amo_run_log.proofs.TextLists.{reads_back, was_printed}

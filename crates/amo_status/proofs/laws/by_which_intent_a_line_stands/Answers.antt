@@ -1,3 +1,4 @@
+-- `by_which_intent_a_line_stands`: its promises, by the lemmas of ByIntent.
 use Rattle.amo_status.proofs.ByIntent.{law_closed, law_open, law_running}
 use Rattle.amo_status.proofs.laws.by_which_intent_a_line_stands.Goals as goal
 

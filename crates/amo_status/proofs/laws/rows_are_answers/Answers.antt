@@ -1,3 +1,4 @@
+-- `rows_are_answers`: its promises, by the lemmas of SaidTexts.
 use Rattle.amo_status.proofs.SaidTexts.{row_is_answer}
 use Rattle.amo_status.proofs.laws.rows_are_answers.Goals as goal
 

@@ -1,3 +1,4 @@
+-- `push_spaced`: what its loop keeps, by the lemmas of RowSteps.
 use Rattle.std.proofs.Common.{◌++◌, ap, ◌∙◌}
 use Rattle.amo_status.proofs.RowSteps.{spaced_more}
 use Rattle.amo_status.proofs.listing.push_spaced.Goals as goal

@@ -1,3 +1,4 @@
+-- The facts that each pass of a loop of `push_spaced` keeps.
 use Rattle.std.proofs.Common.{◌≡◌, ◌++◌, drop}
 use Rattle.amo_status.specs.Rows.{spaced}
 use Rattle.amo_status.proofs.listing.push_spaced.Given as goal

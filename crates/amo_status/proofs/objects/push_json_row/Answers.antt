@@ -1,3 +1,4 @@
+-- `push_json_row`: its promises, by the lemmas of RowSteps.
 use Rattle.std.proofs.Common.{[], List, ℕ, Bor, map, get_or, sym, ap, ◌∙◌}
 use Rattle.std.proofs.lemmas.Result.{on_ok_weaker}
 use Rattle.amo_status.specs.Json.{text_or_null}

@@ -1,3 +1,4 @@
+-- `push_json_rows`: what its loop keeps, by the lemmas of RowSteps.
 use Rattle.std.proofs.Common.{map}
 use Rattle.amo_status.proofs.RowSteps.{row_more}
 use Rattle.amo_status.proofs.objects.push_json_rows.Goals as goal

@@ -1,3 +1,4 @@
+-- The facts that each pass of a loop of `push_json_rows` keeps.
 use Rattle.std.proofs.Common.{◌≡◌, ◌++◌, false, drop, map}
 use Rattle.amo_status.specs.Json.{json_rows}
 use Rattle.amo_status.proofs.objects.push_json_rows.Given as goal

@@ -1,3 +1,4 @@
+-- `push_numbers`: what its loop keeps, by the lemmas of RowSteps.
 use Rattle.std.proofs.Common.{◌++◌, ap, ◌∙◌}
 use Rattle.amo_status.proofs.RowSteps.{numbers_more}
 use Rattle.amo_status.proofs.objects.push_numbers.Goals as goal

@@ -1,3 +1,4 @@
+-- The facts that each pass of a loop of `push_numbers` keeps.
 use Rattle.std.proofs.Common.{◌≡◌, ◌++◌, false, drop}
 use Rattle.amo_status.specs.Json.{json_numbers}
 use Rattle.amo_status.proofs.objects.push_numbers.Given as goal

@@ -1,3 +1,4 @@
+-- `status_json`: its promises, by the lemmas of RowSteps.
 use Rattle.std.proofs.Common.{◌++◌, ◌∷◌, [], false, None, List, ℕ, Bor, map}
 use Rattle.std.specs.Prelude.{codes}
 use Rattle.amo_status.specs.declared.heading.Style.TheVariants.{Members}

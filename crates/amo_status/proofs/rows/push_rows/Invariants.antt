@@ -1,3 +1,4 @@
+-- The facts that each pass of a loop of `push_rows` keeps.
 use Rattle.std.proofs.Common.{◌≡◌, ◌++◌, drop, map}
 use Rattle.amo_status.specs.Rows.{row_of, rows_from}
 use Rattle.amo_status.proofs.rows.push_rows.Given as goal

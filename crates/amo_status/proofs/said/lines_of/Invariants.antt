@@ -1,3 +1,4 @@
+-- The facts that each pass of a loop of `lines_of` keeps.
 use Rattle.std.proofs.Common.{◌≡◌, ◌++◌, [], drop, map}
 use Rattle.amo_status.specs.Said.{lines_from}
 use Rattle.amo_status.proofs.said.lines_of.Given as goal

@@ -1,3 +1,4 @@
+-- `read_one`: its promises, by the lemmas of SaidTexts.
 use Rattle.std.proofs.Common.{ap, ◌∙◌}
 use Rattle.amo_status.specs.Said.{words_in}
 use Rattle.amo_status.proofs.SaidTexts.{words_found, words_none}

@@ -1,3 +1,4 @@
+-- `said_on`: what its loop keeps and its promises, by the lemmas of TextLists (amo_run_log).
 use Rattle.std.proofs.Common.{map, Some, sym, ap, ◌∙◌, arith}
 use Rattle.std.specs.Prelude.{option_map}
 use Rattle.std.proofs.lemmas.List.{map_push, length-map}

@@ -1,3 +1,4 @@
+-- The facts that each pass of a loop of `said_on` keeps.
 use Rattle.std.proofs.Common.{◌≡◌, map, take, Some}
 use Rattle.amo_run_log.specs.Numbers.{read_all}
 use Rattle.amo_status.specs.Said.{said_by, said_in}

@@ -1,3 +1,4 @@
+-- `decided_by`: what its loop keeps, by the lemmas of Noting.
 use Rattle.amo_status.proofs.Noting.{noted}
 use Rattle.amo_status.proofs.standing.decided_by.Goals as goal
 

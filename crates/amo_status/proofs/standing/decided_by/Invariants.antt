@@ -1,3 +1,4 @@
+-- The facts that each pass of a loop of `decided_by` keeps.
 use Rattle.std.proofs.Common.{◌≡◌, ◌+◌, drop}
 use Rattle.amo_status.specs.Deciding.{decided_from}
 use Rattle.amo_status.specs.Standings.{closing_in}

@@ -1,3 +1,4 @@
+-- `decided_with`: its promises, by the lemmas of Noting.
 use Rattle.std.proofs.Common.{sym, ◌∙◌}
 use Rattle.amo_status.proofs.Noting.{decided_by_it}
 use Rattle.amo_status.proofs.standing.decided_with.Goals as goal

@@ -1,3 +1,4 @@
+-- `note`: what its loop keeps, by the lemmas of Noting.
 use Rattle.std.proofs.Common.{get_or, arith}
 use Rattle.amo_status.specs.Standings.{open_standing}
 use Rattle.amo_status.proofs.Noting.{noted}

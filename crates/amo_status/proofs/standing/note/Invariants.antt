@@ -1,3 +1,4 @@
+-- The facts that each pass of a loop of `note` keeps.
 use Rattle.std.proofs.Common.{◌≡◌, ℕ, ◌+◌, ◌<◌, length, get_or, drop}
 use Rattle.amo_status.specs.Deciding.{decided_from}
 use Rattle.amo_status.specs.Standings.{open_standing, closing_in}

@@ -1,3 +1,4 @@
+-- `note_all`: what its loop keeps, by the lemmas of Noting.
 use Rattle.std.proofs.Common.{◌≡◌, ◌∙◌, ◌+◌, get_or, ap, arith}
 use Rattle.amo_status.specs.Deciding.{decided_from}
 use Rattle.amo_status.specs.Standings.{open_standing, closing_in}

@@ -1,3 +1,4 @@
+-- The facts that each pass of a loop of `note_all` keeps.
 use Rattle.std.proofs.Common.{◌≡◌, ℕ, ◌+◌, ◌<◌, length, get_or, drop, map}
 use Rattle.amo_status.specs.Deciding.{decided_from}
 use Rattle.amo_status.specs.Standings.{open_standing, closing}

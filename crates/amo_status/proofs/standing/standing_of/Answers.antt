@@ -1,3 +1,4 @@
+-- `standing_of`: its promises, by the lemmas of Noting.
 use Rattle.std.proofs.Common.{Vec, Global, map, ◌∙◌}
 use Rattle.amo_run_log.specs.declared.journal.Attempt.{Attempt}
 use Rattle.amo_status.proofs.Noting.{decides_all}

@@ -1,3 +1,4 @@
+-- `standings`: its promises, by the lemmas of Opened.
 use Rattle.std.proofs.Common.{◌≡◌, ℕ, ◌+◌, ◌<◌, List, Vec, Global, length, get_or, map, replicate, rules, ap, ◌∙◌, arith}
 use Rattle.std.proofs.lemmas.List.{take_at, get_or-replicate}
 use Rattle.amo_run_log.specs.declared.journal.Attempt.{Attempt}

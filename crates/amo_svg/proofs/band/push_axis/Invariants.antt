@@ -1,3 +1,4 @@
+-- The facts that each pass of a loop of `push_axis` keeps.
 use Rattle.std.proofs.Common.{◌≡◌, ◌++◌, string_bytes}
 use Rattle.amo_svg.specs.Band.{axis}
 use Rattle.amo_svg.proofs.band.push_axis.Given as goal

@@ -1,3 +1,4 @@
+-- The facts that each pass of a loop of `push_free_marks` keeps.
 use Rattle.std.proofs.Common.{◌≡◌, ◌++◌, drop, string_bytes}
 use Rattle.amo_svg.specs.Band.{free_marks}
 use Rattle.amo_svg.proofs.band.push_free_marks.Given as goal

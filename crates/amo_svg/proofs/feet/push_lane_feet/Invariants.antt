@@ -1,3 +1,4 @@
+-- The facts that each pass of a loop of `push_lane_feet` keeps.
 use Rattle.std.proofs.Common.{◌≡◌, ◌++◌, string_bytes}
 use Rattle.amo_svg.specs.Feet.{lane_feet}
 use Rattle.amo_svg.proofs.feet.push_lane_feet.Given as goal

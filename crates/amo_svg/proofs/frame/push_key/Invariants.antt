@@ -1,3 +1,4 @@
+-- The facts that each pass of a loop of `push_key` keeps.
 use Rattle.std.proofs.Common.{◌≡◌, ◌++◌, drop, string_bytes}
 use Rattle.amo_svg.specs.Frame.{key_lines}
 use Rattle.amo_svg.proofs.frame.push_key.Given as goal

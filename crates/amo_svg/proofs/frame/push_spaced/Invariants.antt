@@ -1,3 +1,4 @@
+-- The facts that each pass of a loop of `push_spaced` keeps.
 use Rattle.std.proofs.Common.{◌≡◌, ◌++◌, drop, string_bytes}
 use Rattle.amo_render.specs.Numbers.{spaced}
 use Rattle.amo_svg.proofs.frame.push_spaced.Given as goal

@@ -1,3 +1,4 @@
+-- The facts that each pass of a loop of `push_grid` keeps.
 use Rattle.std.proofs.Common.{◌≡◌, ◌++◌, string_bytes}
 use Rattle.amo_svg.specs.Jobs.{grid}
 use Rattle.amo_svg.proofs.jobs.push_grid.Given as goal

@@ -1,3 +1,4 @@
+-- The facts that each pass of a loop of `push_workers_drawn` keeps.
 use Rattle.std.proofs.Common.{◌≡◌, ◌++◌, string_bytes}
 use Rattle.amo_plan.specs.PlanSeen.{plan_seen}
 use Rattle.amo_svg.specs.Jobs.{columns_of, workers_drawn}

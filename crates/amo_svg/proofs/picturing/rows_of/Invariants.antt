@@ -1,3 +1,4 @@
+-- The facts that each pass of a loop of `rows_of` keeps.
 use Rattle.std.proofs.Common.{◌≡◌, ◌++◌, drop}
 use Rattle.std.specs.List.{filter}
 use Rattle.amo_svg.specs.Rows.{acts}

@@ -1,3 +1,4 @@
+-- The facts that each pass of a loop of `push_pieces` keeps.
 use Rattle.std.proofs.Common.{◌≡◌, ◌++◌, drop, string_bytes}
 use Rattle.amo_svg.specs.Pieces.{pieces}
 use Rattle.amo_svg.proofs.pieces.push_pieces.Given as goal

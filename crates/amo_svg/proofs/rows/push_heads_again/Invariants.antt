@@ -1,3 +1,4 @@
+-- The facts that each pass of a loop of `push_heads_again` keeps.
 use Rattle.std.proofs.Common.{◌≡◌, ◌++◌, string_bytes}
 use Rattle.amo_svg.specs.Rows.{heads_again}
 use Rattle.amo_svg.proofs.rows.push_heads_again.Given as goal

@@ -1,3 +1,4 @@
+-- The facts that each pass of a loop of `push_lane_heads` keeps.
 use Rattle.std.proofs.Common.{◌≡◌, ◌++◌, string_bytes}
 use Rattle.amo_svg.specs.Rows.{lane_heads}
 use Rattle.amo_svg.proofs.rows.push_lane_heads.Given as goal

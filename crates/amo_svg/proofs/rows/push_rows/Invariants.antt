@@ -1,3 +1,4 @@
+-- The facts that each pass of a loop of `push_rows` keeps.
 use Rattle.std.proofs.Common.{◌≡◌, ◌++◌, ◌+◌, drop, string_bytes}
 use Rattle.amo_svg.specs.Rows.{row_texts}
 use Rattle.amo_svg.proofs.rows.push_rows.Given as goal

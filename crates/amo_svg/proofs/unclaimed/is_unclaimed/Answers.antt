@@ -1,3 +1,4 @@
+-- `is_unclaimed`: its promises, by the lemmas of Counts (amo_kk).
 use Rattle.std.proofs.Common.{sym, ◌∙◌}
 use Rattle.amo_kk.proofs.Counts.{unclaimed_is}
 use Rattle.amo_svg.proofs.unclaimed.is_unclaimed.Goals as goal

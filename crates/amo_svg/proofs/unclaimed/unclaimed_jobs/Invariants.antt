@@ -1,3 +1,4 @@
+-- The facts that each pass of a loop of `unclaimed_jobs` keeps.
 use Rattle.std.proofs.Common.{◌≡◌, not}
 use Rattle.amo_sets.specs.Sets.{has, members}
 use Rattle.amo_kk.specs.Run.{claimed_jobs}

@@ -1,3 +1,4 @@
+-- `attempts_fail_by_their_own_job`: its promises, by the lemmas of Worlds (amo_kk) and Meetings.
 use Rattle.std.proofs.Common.{false}
 use Rattle.amo_kk.specs.World.{opening_world}
 use Rattle.amo_kk.proofs.Worlds.{opening_lawful}

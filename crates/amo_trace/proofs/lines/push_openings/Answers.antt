@@ -1,3 +1,4 @@
+-- `push_openings`: what its loop keeps, directly from definitions and clauses.
 use Rattle.std.proofs.Common.{◌≡◌, ◌++◌, ◌+◌, refl, ap, sym, ◌∙◌, append_assoc, add-one, string_bytes}
 use Rattle.amo_kk.specs.World.{process}
 use Rattle.amo_trace.specs.Trace.{opening_line, opening_lines}

@@ -1,3 +1,4 @@
+-- The facts that each pass of a loop of `push_openings` keeps.
 use Rattle.std.proofs.Common.{◌≡◌, ◌++◌, string_bytes}
 use Rattle.amo_trace.specs.Trace.{opening_lines}
 use Rattle.amo_trace.proofs.lines.push_openings.Given as goal

@@ -1,3 +1,4 @@
+-- The facts that each pass of a loop of `push_transitions` keeps.
 use Rattle.std.proofs.Common.{◌≡◌, ◌++◌, drop, string_bytes}
 use Rattle.amo_trace.specs.Trace.{transition_lines}
 use Rattle.amo_trace.proofs.lines.push_transitions.Given as goal

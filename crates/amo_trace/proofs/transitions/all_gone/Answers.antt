@@ -1,3 +1,4 @@
+-- `all_gone`: its promises, by the lemmas of Gone.
 use Rattle.std.proofs.Common.{◌<◌, sym, subst, ◌∙◌}
 use Rattle.amo_givens.specs.declared.givens.Givens.{Givens}
 use Rattle.amo_trace.proofs.Gone.{one_is_here}

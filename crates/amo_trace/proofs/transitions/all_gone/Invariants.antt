@@ -1,3 +1,4 @@
+-- The facts that each pass of a loop of `all_gone` keeps.
 use Rattle.std.proofs.Common.{◌≡◌, true}
 use Rattle.amo_trace.specs.Transitions.{are_gone}
 use Rattle.amo_trace.proofs.transitions.all_gone.Given as goal

@@ -1,3 +1,4 @@
+-- `make_move`: the premises of its calls, by the lemmas of WithinLemmas (amo_plan).
 use Rattle.amo_plan.proofs.WithinLemmas.{one_in_range}
 use Rattle.amo_trace.proofs.transitions.make_move.Goals as goal
 

@@ -1,3 +1,4 @@
+-- `make_moves`: its promises, by the lemmas of Gone.
 use Rattle.std.proofs.Common.{◌≡◌, ◌++◌, ◌+◌, true, drop, sym, ap, ◌∙◌, subst}
 use Rattle.std.proofs.lemmas.List.{append-nil}
 use Rattle.amo_givens.specs.declared.givens.Givens.{Givens}

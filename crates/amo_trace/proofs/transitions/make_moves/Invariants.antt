@@ -1,3 +1,4 @@
+-- The facts that each pass of a loop of `make_moves` keeps.
 use Rattle.std.proofs.Common.{◌≡◌, ◌++◌, ◌+◌, true, drop}
 use Rattle.amo_givens.specs.Moves.{are_in_range}
 use Rattle.amo_kk.specs.World.{world_after_moves}

@@ -1,3 +1,4 @@
+-- The facts that each pass of a loop of `moves_of` keeps.
 use Rattle.std.proofs.Common.{◌≡◌, ◌++◌}
 use Rattle.amo_kk.specs.World.{rounds}
 use Rattle.amo_trace.proofs.transitions.moves_of.Given as goal

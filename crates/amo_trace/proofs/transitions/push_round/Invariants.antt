@@ -1,3 +1,4 @@
+-- The facts that each pass of a loop of `push_round` keeps.
 use Rattle.std.proofs.Common.{◌≡◌, ◌++◌}
 use Rattle.amo_sets.specs.Lists.{table}
 use Rattle.amo_givens.specs.declared.moves.Move.TheVariants.{Turn}

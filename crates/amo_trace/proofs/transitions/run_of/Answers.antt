@@ -1,3 +1,4 @@
+-- `run_of`: the premises of its calls, by the lemmas of Rounds (amo_report) and Range.
 use Rattle.std.proofs.Common.{ap, ◌∙◌}
 use Rattle.amo_world.specs.Views.{WorldView}
 use Rattle.amo_report.proofs.Rounds.{range_of}

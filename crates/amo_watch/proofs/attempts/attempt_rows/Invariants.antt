@@ -1,3 +1,4 @@
+-- The facts that each pass of a loop of `attempt_rows` keeps.
 use Rattle.std.proofs.Common.{◌≡◌, ◌+◌, ◌++◌, drop}
 use Rattle.amo_watch.specs.RowsOf.{rows_from}
 use Rattle.amo_watch.proofs.attempts.attempt_rows.Given as goal

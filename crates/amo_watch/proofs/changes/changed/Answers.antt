@@ -1,3 +1,4 @@
+-- `changed`: what its loop keeps, by the lemmas of Steps.
 use Rattle.amo_watch.proofs.Steps.{changed_more}
 use Rattle.amo_watch.proofs.changes.changed.Goals as goal
 

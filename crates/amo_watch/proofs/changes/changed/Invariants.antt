@@ -1,3 +1,4 @@
+-- The facts that each pass of a loop of `changed` keeps.
 use Rattle.std.proofs.Common.{◌≡◌, ◌++◌, drop}
 use Rattle.amo_watch.specs.Changes.{changed}
 use Rattle.amo_watch.proofs.changes.changed.Given as goal

@@ -1,3 +1,4 @@
+-- The facts that each pass of a loop of `push_rows` keeps.
 use Rattle.std.proofs.Common.{◌≡◌, ◌++◌, true, drop}
 use Rattle.amo_watch.specs.Lines.{rows_json}
 use Rattle.amo_watch.proofs.line.push_rows.Given as goal

@@ -1,3 +1,4 @@
+-- `look`: the premises of its calls, by the lemmas of Meetings (amo_words).
 use Rattle.std.proofs.Common.{◌≡◌, ◌<◌, ◌≤◌, arith, ap, sym, ◌∙◌, subst, rules}
 use Rattle.std.proofs.lemmas.Grind.{common_steps}
 use Rattle.amo_givens.specs.Givens.{IsWorker}

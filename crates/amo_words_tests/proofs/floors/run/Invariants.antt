@@ -1,3 +1,4 @@
+-- The facts that each pass of a loop of `run` keeps.
 use Rattle.std.proofs.Common.{◌≡◌}
 use Rattle.amo_words_tests.proofs.floors.run.Given as goal
 

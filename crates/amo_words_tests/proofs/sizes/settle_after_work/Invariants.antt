@@ -1,3 +1,4 @@
+-- The facts that each pass of a loop of `settle_after_work` keeps.
 use Rattle.std.proofs.Common.{◌≡◌}
 use Rattle.amo_words_tests.proofs.sizes.settle_after_work.Given as goal
 

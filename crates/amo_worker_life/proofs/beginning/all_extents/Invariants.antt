@@ -1,3 +1,4 @@
+-- The facts that each pass of a loop of `all_extents` keeps.
 use Rattle.std.proofs.Common.{◌≡◌, ◌∷◌}
 use Rattle.amo_worker_life.proofs.beginning.all_extents.Given as goal
 

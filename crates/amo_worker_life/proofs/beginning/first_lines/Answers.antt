@@ -1,3 +1,4 @@
+-- `first_lines`: that its places exist and its promises, directly from definitions and clauses.
 use Rattle.std.proofs.Common.{◌≡◌, sym, subst, arith, rules}
 use Rattle.std.specs.Prelude.{IfOk}
 use Rattle.std.proofs.lemmas.List.{length-take-le, take_all}

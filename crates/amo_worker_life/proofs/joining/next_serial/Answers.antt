@@ -1,3 +1,4 @@
+-- `next_serial`: its promises, by the lemmas of Serials.
 use Rattle.std.proofs.Common.{◌+◌, ℕ, ap, ◌∙◌}
 use Rattle.amo_worker_life.proofs.Serials.{next_past, next_there}
 use Rattle.amo_worker_life.proofs.joining.next_serial.Goals as goal

@@ -1,3 +1,4 @@
+-- The facts that each pass of a loop of `live` keeps.
 use Rattle.std.proofs.Common.{◌≡◌}
 use Rattle.std.specs.Prelude.{option_map}
 use Rattle.amo_worker_life.specs.Reading.{logs_of}

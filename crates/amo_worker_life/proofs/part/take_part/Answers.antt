@@ -1,3 +1,4 @@
+-- `take_part`: its promises, by the lemmas of Ends.
 use Rattle.std.proofs.Common.{◌≡◌, ℕ, List, Vec, Global, sym, subst, ◌∙◌}
 use Rattle.amo_driver.specs.Stage.{Stage}
 use Rattle.amo_driver.specs.Stops.{EndsAt}

@@ -1,3 +1,4 @@
+-- The facts that each pass of a loop of `pending_of` keeps.
 use Rattle.std.proofs.Common.{◌≡◌, map}
 use Rattle.amo_host.specs.Starting.{intent_of}
 use Rattle.amo_worker_life.proofs.start.pending_of.Given as goal

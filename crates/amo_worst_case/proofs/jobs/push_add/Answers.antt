@@ -1,3 +1,4 @@
+-- `push_add`: its promises, directly from definitions and clauses.
 use Rattle.std.proofs.Common.{append_assoc}
 use Rattle.amo_worst_case.specs.Text.{add_lines}
 use Rattle.amo_worst_case.proofs.jobs.push_add.Goals as goal

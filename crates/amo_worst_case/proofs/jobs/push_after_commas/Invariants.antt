@@ -1,3 +1,4 @@
+-- The facts that each pass of a loop of `push_after_commas` keeps.
 use Rattle.std.proofs.Common.{◌≡◌, ◌++◌, take, string_bytes}
 use Rattle.std.specs.List.{flat_map}
 use Rattle.amo_worst_case.specs.Text.{after_comma}

@@ -1,3 +1,4 @@
+-- The facts that each pass of a loop of `push_jobs` keeps.
 use Rattle.std.proofs.Common.{◌≡◌, ◌++◌, drop, string_bytes}
 use Rattle.amo_worst_case.specs.Text.{all_job_lines}
 use Rattle.amo_worst_case.proofs.jobs.push_jobs.Given as goal

@@ -1,3 +1,4 @@
+-- `written_plans_are_read`: its promises, by the lemmas of ReadPlan.
 use Rattle.amo_worst_case.proofs.ReadPlan.{plan_read}
 use Rattle.amo_worst_case.proofs.laws.written_plans_are_read.Goals as goal
 

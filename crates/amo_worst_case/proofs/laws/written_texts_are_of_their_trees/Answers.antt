@@ -1,3 +1,4 @@
+-- `written_texts_are_of_their_trees`: its promises, by the lemmas of TreeTexts.
 use Rattle.amo_worst_case.proofs.TreeTexts.{tree_read}
 use Rattle.amo_worst_case.proofs.laws.written_texts_are_of_their_trees.Goals as goal
 

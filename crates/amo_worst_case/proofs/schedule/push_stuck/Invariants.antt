@@ -1,3 +1,4 @@
+-- The facts that each pass of a loop of `push_stuck` keeps.
 use Rattle.std.proofs.Common.{◌≡◌, ◌++◌, string_bytes}
 use Rattle.amo_worst_case.specs.Schedule.{stuck_words}
 use Rattle.amo_worst_case.proofs.schedule.push_stuck.Given as goal

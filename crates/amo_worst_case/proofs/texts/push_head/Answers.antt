@@ -1,3 +1,4 @@
+-- `push_head`: its promises, directly from definitions and clauses.
 use Rattle.std.proofs.Common.{append_assoc}
 use Rattle.amo_worst_case.specs.Text.{head_lines}
 use Rattle.amo_worst_case.proofs.texts.push_head.Goals as goal

@@ -1,3 +1,4 @@
+-- `Life::hand_over`: its promises, directly from definitions and clauses.
 use Rattle.std.proofs.Common.{subst}
 use Rattle.amo_driver.specs.Stage.{Intending}
 use Rattle.amo_driver.proofs.life.Life.hand_over.Goals as goal

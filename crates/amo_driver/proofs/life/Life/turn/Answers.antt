@@ -1,3 +1,4 @@
+-- `Life::turn`: its promises, directly from definitions and clauses.
 use Rattle.std.proofs.Common.{sym, ◌∙◌}
 use Rattle.amo_driver.proofs.life.Life.turn.Goals as goal
 

@@ -1,3 +1,4 @@
+-- `Bank::pay_next`: its promises, by the lemmas of Floors and Fronts.
 use Rattle.amo_example_payments.proofs.Floors.{part_none, part_one, next_one}
 use Rattle.amo_example_payments.proofs.Fronts.{on_err, whole}
 use Rattle.amo_example_payments.proofs.bank.Bank.pay_next.Goals as goal

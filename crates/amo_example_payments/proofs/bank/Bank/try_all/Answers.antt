@@ -1,3 +1,4 @@
+-- `Bank::try_all`: what its loop keeps and its promises, by the lemmas of Floors and Fronts.
 use Rattle.std.proofs.Common.{rules}
 use Rattle.amo_example_payments.proofs.Floors.{next_none, next_more, part_more}
 use Rattle.amo_example_payments.proofs.Fronts.{on_err}

@@ -1,3 +1,4 @@
+-- The facts that each pass of a loop of `Bank::try_all` keeps.
 use Rattle.std.proofs.Common.{[], vec_len}
 use Rattle.amo_example_payments.specs.Reports.{AreTried, TellsNext}
 use Rattle.amo_example_payments.proofs.bank.Bank.try_all.Given as goal

@@ -1,3 +1,4 @@
+-- `Bank::try_next`: its promises, by the lemmas of Floors and Fronts.
 use Rattle.std.proofs.Common.{subst}
 use Rattle.std.specs.Io.KnownBytes.{Appends}
 use Rattle.amo_io.specs.Streams.{AppendsFront}

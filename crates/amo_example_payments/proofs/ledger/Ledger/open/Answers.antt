@@ -1,3 +1,4 @@
+-- `Ledger::open`: what its type keeps, directly from definitions and clauses.
 use Rattle.std.proofs.Common.{List, ap, ◌∙◌}
 use Rattle.amo_run_log.specs.declared.journal.Attempt.{Attempt}
 use Rattle.amo_example_payments.specs.Restarts.{has_intent}

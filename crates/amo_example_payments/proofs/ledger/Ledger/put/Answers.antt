@@ -1,3 +1,4 @@
+-- `Ledger::put`: what its type keeps, by the lemmas of AttemptLemmas (amo_run_log) and Ledgers.
 use mathlib.Core.Logic.{∥∥₁_map}
 use Rattle.amo_run_log.proofs.AttemptLemmas.{is_noted}
 use Rattle.amo_example_payments.proofs.Ledgers.{known_more}

@@ -1,3 +1,4 @@
+-- The facts that each pass of a loop of `Earlier::of` keeps.
 use Rattle.std.proofs.Common.{◌≡◌, ℕ, take}
 use Rattle.std.specs.BTreeSet.{contains}
 use Rattle.std.specs.Ordering.{nat_cmp}

@@ -1,3 +1,4 @@
+-- `FileDeviceDevice::cut`: its promises, by the lemmas of Kept.
 use Rattle.std.proofs.Common.{subst, sym}
 use Rattle.amo_journal.specs.Device.{Cut}
 use Rattle.amo_fs.proofs.Kept.{uncut}

@@ -1,3 +1,4 @@
+-- `FileDeviceDevice::write_at`: its promises, by the lemmas of Kept.
 use Rattle.std.proofs.Common.{◌≡◌, List, ℕ, ◌++◌, length, take, drop, sym, subst, ap, ◌∙◌, arith, rules}
 use Rattle.std.proofs.Math.Seq.{take-append_seam}
 use Rattle.amo_journal.specs.Device.{Holds, WritesFront}

@@ -1,3 +1,4 @@
+-- `Place::moved`: that its numbers fit and its promises, by the lemmas of Chains and Following.
 use Rattle.std.proofs.Common.{rules, ◌≡◌, ◌+◌, ◌-◌, ℕ, length, take, drop, ap, ◌∙◌, arith, length-append}
 use Rattle.std.proofs.lemmas.List.{length-map}
 use Rattle.amo_journal.specs.Appends.{appends, checksum_after, next_checksum}

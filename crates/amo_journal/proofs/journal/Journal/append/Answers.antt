@@ -1,3 +1,5 @@
+-- `Journal::append`: the premises of its calls and its promises, by the lemmas of Blocks, Chains,
+-- Journaling and Logs.
 use Rattle.std.proofs.Common.{◌≡◌, ◌++◌, [], ◌∷◌, ℕ, List, length, inl, sym, ◌∙◌, ap, subst, arith, rules}
 use Rattle.amo_journal.specs.Appends.{checksum_after, line_of, lines_from, next_checksum, records_in}
 use Rattle.amo_journal.specs.Texts.{AreOneLine, IsOneLine, texts_in, blocks}

@@ -1,3 +1,4 @@
+-- `Journal::recover`: its promises, by the lemmas of Journaling, Logs, Moments, Opening and Parts.
 use Rattle.std.proofs.Common.{◌≡◌, ℕ, List, length, ⊎_elim, sym, ◌∙◌, ap, subst}
 use Rattle.amo_journal.specs.Appends.{IsLog, checksum_after, lines_from, records_in}
 use Rattle.amo_journal.specs.Device.{LeavesOnly}

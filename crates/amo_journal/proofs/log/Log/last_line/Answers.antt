@@ -1,3 +1,4 @@
+-- `Log::last_line`: its promises, by the lemmas of Logs.
 use Rattle.std.proofs.Common.{◌≡◌, ◌+◌, ℕ, length, ap, rules}
 use Rattle.amo_journal.proofs.Logs.{last_of_records}
 use Rattle.amo_journal.proofs.log.Log.last_line.Goals as goal

@@ -1,3 +1,4 @@
+-- `MemoryDeviceDevice::cut`: its promises, by the lemmas of Kept.
 use Rattle.amo_journal.proofs.Kept.{elapses_to}
 use Rattle.amo_journal.proofs.memory.MemoryDeviceDevice.cut.Goals as goal
 

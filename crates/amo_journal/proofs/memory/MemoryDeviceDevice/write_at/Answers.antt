@@ -1,3 +1,4 @@
+-- `MemoryDeviceDevice::write_at`: its promises, by the lemmas of Kept.
 use Rattle.std.proofs.Common.{rules}
 use Rattle.amo_journal.specs.Device.{Holds}
 use Rattle.amo_journal.proofs.Kept.{whole_front}

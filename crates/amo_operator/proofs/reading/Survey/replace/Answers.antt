@@ -1,3 +1,4 @@
+-- `Survey::replace`: its promises, by the lemmas of Setting.
 use Rattle.std.proofs.Common.{◌-◌, ℕ, List, map, ap}
 use Rattle.amo_operator.proofs.Setting.{map_set}
 use Rattle.amo_operator.proofs.reading.Survey.replace.Goals as goal

@@ -1,3 +1,4 @@
+-- The facts that each pass of a loop of `Follower::more` keeps.
 use Rattle.std.proofs.Common.{◌<◌}
 use Rattle.amo_run_dir.proofs.follower.Follower.more.Given as goal
 

@@ -1,3 +1,4 @@
+-- `HashedJobs::digest_of_front`: what its type keeps and its promises, by the lemmas of Again.
 use Rattle.std.proofs.Common.{◌-◌, ◌++◌, List, ℕ, length, take, drop, sym, ap, subst, ◌∙◌, arith}
 use Rattle.sha2.specs.Hashers.{Holds256}
 use Rattle.sha2.specs.declared.Sha256.{Sha256}

@@ -1,3 +1,4 @@
+-- The facts that each pass of a loop of `RoundHeader::print` keeps.
 use Rattle.std.proofs.Common.{◌≡◌, ◌++◌, drop, map}
 use Rattle.std.specs.Fmt.{decimal}
 use Rattle.amo_run_log.specs.Texts.{ended}

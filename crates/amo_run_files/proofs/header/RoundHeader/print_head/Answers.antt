@@ -1,3 +1,4 @@
+-- `RoundHeader::print_head`: its promises, by the lemmas of Records.
 use Rattle.std.proofs.Common.{◌≡◌, ◌++◌, ◌∷◌, [], List, ℕ, map, rules, ap, ◌∙◌}
 use Rattle.std.specs.Prelude.{codes}
 use Rattle.std.specs.Fmt.{decimal}

@@ -1,3 +1,4 @@
+-- `Jobs::are_all_of`: its promises, by the lemmas of Again and KeptJobs.
 use Rattle.std.proofs.Common.{◌≡◌, true, List, ℕ, sym, ap, ◌∙◌}
 use Rattle.amo_run_log.specs.Texts.{ended}
 use Rattle.amo_run_files.specs.Again.{is_all_of}

@@ -1,3 +1,4 @@
+-- `Jobs::bytes`: its promises, by the lemmas of KeptJobs.
 use Rattle.std.proofs.Common.{ap, ◌∙◌}
 use Rattle.amo_run_log.specs.Texts.{ended}
 use Rattle.amo_run_files.proofs.KeptJobs.{bytes_are}

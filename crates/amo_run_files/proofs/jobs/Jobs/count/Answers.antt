@@ -1,3 +1,4 @@
+-- `Jobs::count`: its promises, by the lemmas of Cuts, Ends and Refusals.
 use Rattle.std.proofs.Common.{length, List, ℕ, ap, subst, arith}
 use Rattle.amo_run_files.specs.Lines.{lines_in}
 use Rattle.amo_run_files.specs.Jobs.{AreJobs}

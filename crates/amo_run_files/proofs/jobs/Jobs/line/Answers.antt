@@ -1,3 +1,4 @@
+-- `Jobs::line`: its promises, by the lemmas of Ends and KeptJobs.
 use Rattle.std.proofs.Common.{◌-◌, [], List, ℕ, length, get_or, ap, ◌∙◌, arith}
 use Rattle.amo_run_files.specs.Lines.{lines_in}
 use Rattle.amo_run_files.proofs.Ends.{length_ends}

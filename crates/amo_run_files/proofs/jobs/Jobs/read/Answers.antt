@@ -1,3 +1,4 @@
+-- `Jobs::read`: what its type keeps and its promises, by the lemmas of Cuts and KeptJobs.
 use Rattle.std.proofs.Common.{◌<◌, ◌≢◌, ◌++◌, List, ℕ, length, sym, ap, subst, ◌∙◌, All, AllPairs}
 use Rattle.amo_run_log.specs.Texts.{ended}
 use Rattle.amo_run_files.specs.Lines.{lines_in, remainder_in, ends_of}

@@ -1,3 +1,4 @@
+-- `RoundFile::print`: what its loop keeps and its promises, by the lemmas of Ends.
 use Rattle.std.proofs.Common.{◌≡◌, ◌++◌, List, ℕ, length, map, sym, ap, ◌∙◌, arith, append-nil}
 use Rattle.std.proofs.lemmas.List.{at_drop_all}
 use Rattle.amo_run_log.specs.Texts.{ended}

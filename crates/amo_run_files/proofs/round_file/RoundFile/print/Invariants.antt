@@ -1,3 +1,4 @@
+-- The facts that each pass of a loop of `RoundFile::print` keeps.
 use Rattle.std.proofs.Common.{◌≡◌, ◌++◌, drop, map}
 use Rattle.amo_run_log.specs.Texts.{ended}
 use Rattle.amo_run_files.specs.Extents.{extent_said, text_of_extent}

@@ -1,3 +1,4 @@
+-- `RoundFile::read`: its promises, by the lemmas of OpenLines (amo_run_log) and RoundFileTexts.
 use Rattle.amo_run_log.proofs.OpenLines.{in_ok}
 use Rattle.amo_run_files.proofs.RoundFileTexts.{read_found, read_none}
 use Rattle.amo_run_files.proofs.round_file.RoundFile.read.Goals as goal

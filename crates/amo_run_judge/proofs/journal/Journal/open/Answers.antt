@@ -1,3 +1,4 @@
+-- `Journal::open`: its promises, by the lemmas of Steps.
 use Rattle.std.proofs.Common.{rules}
 use Rattle.amo_run_judge.proofs.Steps.{none_to_open, set_opened}
 use Rattle.amo_run_judge.proofs.journal.Journal.open.Goals as goal

@@ -1,3 +1,4 @@
+-- The facts that each pass of a loop of `Journal::standing` keeps.
 use Rattle.std.proofs.Common.{◌≡◌, drop}
 use Rattle.amo_run_judge.specs.Rules.{first_standing}
 use Rattle.amo_run_judge.proofs.journal.Journal.standing.Given as goal

@@ -1,3 +1,4 @@
+-- The facts that each pass of a loop of `Journal::unseen` keeps.
 use Rattle.std.proofs.Common.{◌≡◌, ◌<◌, ℕ, true}
 use Rattle.amo_run_judge.specs.Rules.{has_seen}
 use Rattle.amo_run_judge.proofs.journal.Journal.unseen.Given as goal

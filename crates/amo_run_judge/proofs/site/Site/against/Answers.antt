@@ -1,3 +1,4 @@
+-- `Site::against`: its promises, by the lemmas of Reasons and Steps.
 use Rattle.std.proofs.Common.{sym, subst}
 use Rattle.amo_clearance_safety.specs.Model.{Begins, Looks, Opens, Performs}
 use Rattle.amo_run_judge.specs.Events.{attempt_of, event_of, handing_of}

@@ -1,3 +1,4 @@
+-- `Site::apply`: its promises, directly from definitions and clauses.
 use Rattle.std.proofs.Common.{OnOk, sym, subst}
 use Rattle.amo_run_judge.specs.Events.{event_of}
 use Rattle.amo_run_judge.specs.Seen.{Follows}

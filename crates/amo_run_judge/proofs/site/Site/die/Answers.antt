@@ -1,3 +1,4 @@
+-- `Site::die`: its promises, by the lemmas of Steps.
 use Rattle.std.proofs.Common.{refl}
 use Rattle.amo_run_judge.proofs.Steps.{dies_follows, there, with_journal}
 use Rattle.amo_run_judge.proofs.site.Site.die.Goals as goal

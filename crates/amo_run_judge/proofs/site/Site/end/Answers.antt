@@ -1,3 +1,4 @@
+-- `Site::end`: its promises, by the lemmas of Steps.
 use Rattle.std.proofs.Common.{◌<◌, ◌≤◌, ℕ, length, refl, subst, arith}
 use Rattle.amo_run_judge.proofs.Steps.{ends_follows, nothing_ends, some_of}
 use Rattle.amo_run_judge.proofs.site.Site.end.Goals as goal

@@ -1,3 +1,4 @@
+-- `Site::hand_over`: its promises, by the lemmas of Steps.
 use Rattle.std.proofs.Common.{inl, inr}
 use Rattle.std.proofs.lemmas.Result.{on_ok_weaker}
 use Rattle.amo_run_judge.proofs.Steps.{nothing_to_hand}

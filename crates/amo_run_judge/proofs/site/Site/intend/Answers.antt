@@ -1,3 +1,4 @@
+-- `Site::intend`: its promises, by the lemmas of Steps.
 use Rattle.std.proofs.Common.{refl}
 use Rattle.amo_run_judge.proofs.Steps.{intends_follows, there, with_journal}
 use Rattle.amo_run_judge.proofs.site.Site.intend.Goals as goal

@@ -1,3 +1,4 @@
+-- `Site::journal`: its promises, by the lemmas of Steps.
 use Rattle.amo_run_judge.proofs.Steps.{there}
 use Rattle.amo_run_judge.proofs.site.Site.journal.Goals as goal
 

@@ -1,3 +1,4 @@
+-- `Site::land`: its promises, by the lemmas of Steps.
 use Rattle.std.proofs.Common.{refl}
 use Rattle.amo_run_judge.proofs.Steps.{lands_follows, there, with_journal}
 use Rattle.amo_run_judge.proofs.site.Site.land.Goals as goal

@@ -1,3 +1,4 @@
+-- `Site::look`: its promises, by the lemmas of Steps.
 use Rattle.std.proofs.Common.{refl}
 use Rattle.amo_run_judge.proofs.Steps.{looks_follows, there, with_journal}
 use Rattle.amo_run_judge.proofs.site.Site.look.Goals as goal

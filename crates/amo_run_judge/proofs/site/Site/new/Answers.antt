@@ -1,3 +1,4 @@
+-- `Site::new`: its promises, by the lemmas of Steps.
 use Rattle.amo_run_judge.proofs.Steps.{fresh_shows}
 use Rattle.amo_run_judge.proofs.site.Site.new.Goals as goal
 

@@ -1,3 +1,4 @@
+-- `Site::open`: its promises, by the lemmas of Steps.
 use Rattle.std.proofs.Common.{refl}
 use Rattle.amo_run_judge.proofs.Steps.{opens_follows, there, with_journal}
 use Rattle.amo_run_judge.proofs.site.Site.open.Goals as goal

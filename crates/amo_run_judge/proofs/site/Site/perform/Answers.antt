@@ -1,3 +1,4 @@
+-- `Site::perform`: its promises, by the lemmas of Steps.
 use Rattle.std.proofs.Common.{refl}
 use Rattle.amo_run_judge.proofs.Steps.{performs_follows}
 use Rattle.amo_run_judge.proofs.site.Site.perform.Goals as goal

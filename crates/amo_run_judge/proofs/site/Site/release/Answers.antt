@@ -1,3 +1,4 @@
+-- `Site::release`: its promises, by the lemmas of Steps.
 use Rattle.std.proofs.Common.{refl, ap, ◌∙◌}
 use Rattle.std.specs.Vec.{with_item}
 use Rattle.amo_run_judge.specs.declared.journal.Journal.{Journal}

@@ -1,3 +1,4 @@
+-- `Append::read`: its promises, by the lemmas of AppendTexts and Readings.
 use Rattle.amo_run_log.specs.Entries.{text_of_append, FitsAppend, append_in}
 use Rattle.amo_run_log.proofs.AppendTexts.{append_reads, append_printed}
 use Rattle.amo_run_log.proofs.Readings.{found_by, none_by}

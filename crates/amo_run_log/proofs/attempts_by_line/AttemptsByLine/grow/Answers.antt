@@ -1,3 +1,4 @@
+-- `AttemptsByLine::grow`: what its type keeps, by the lemmas of ByLine.
 use Rattle.amo_run_log.proofs.ByLine.{attempts_in, index_of_pushed}
 use Rattle.amo_run_log.proofs.attempts_by_line.AttemptsByLine.grow.Goals as goal
 

@@ -1,3 +1,4 @@
+-- The facts that each pass of a loop of `AttemptsByLine::grow` keeps.
 use Rattle.std.proofs.Common.{◌≡◌, ◌≤◌, ◌⊎◌, length}
 use Rattle.amo_run_log.proofs.attempts_by_line.AttemptsByLine.grow.Given as goal
 

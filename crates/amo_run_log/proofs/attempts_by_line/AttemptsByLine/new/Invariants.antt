@@ -1,3 +1,4 @@
+-- The facts that each pass of a loop of `AttemptsByLine::new` keeps.
 use Rattle.std.proofs.Common.{◌≡◌, [], map, replicate}
 use Rattle.amo_run_log.proofs.attempts_by_line.AttemptsByLine.new.Given as goal
 

@@ -1,3 +1,5 @@
+-- `AttemptsByLine::note`: what its type keeps and its promises, by the lemmas of ByLine and
+-- OpenLines.
 use Rattle.std.proofs.Common.{◌≡◌, ◌-◌, ℕ, length, set, subst, arith}
 use Rattle.amo_run_log.specs.ByLine.{NotesIn}
 use Rattle.amo_run_log.proofs.ByLine.{attempts_in, index_of_note, notes_in, on_err, same_journals}

@@ -1,3 +1,4 @@
+-- `AttemptsByLine::note_append`: its promises, by the lemmas of ByLine, LogReadings and OpenLines.
 use Rattle.std.proofs.Common.{ℕ, length, sym, subst}
 use Rattle.amo_run_log.specs.declared.append.Append.{Append}
 use Rattle.amo_run_log.specs.ByLine.{NotesIn}

@@ -1,3 +1,4 @@
+-- `AttemptsByLine::standing`: its promises, by the lemmas of ByLine.
 use Rattle.std.proofs.Common.{◌≡◌, ◌∙◌, ℕ, List, Vec, Global, true, ap, subst}
 use Rattle.std.specs.List.{list_any}
 use Rattle.amo_run_log.specs.declared.clearance.AttemptId.{AttemptId}

@@ -1,3 +1,4 @@
+-- `Entry::read`: its promises, by the lemmas of EntryTexts and Readings.
 use Rattle.amo_run_log.specs.Entries.{text_of, Fits, entry_in}
 use Rattle.amo_run_log.proofs.EntryTexts.{entry_reads, entry_printed}
 use Rattle.amo_run_log.proofs.Readings.{found_by, none_by}

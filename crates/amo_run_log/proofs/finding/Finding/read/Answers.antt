@@ -1,3 +1,4 @@
+-- `Finding::read`: its promises, by the lemmas of FindingTexts and Readings.
 use Rattle.amo_run_log.specs.Findings.{text_of_finding, FitsFinding, finding_in}
 use Rattle.amo_run_log.proofs.FindingTexts.{finding_reads, finding_printed}
 use Rattle.amo_run_log.proofs.Readings.{found_by, none_by}

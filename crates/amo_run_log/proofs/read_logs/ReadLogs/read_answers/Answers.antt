@@ -1,3 +1,4 @@
+-- `ReadLogs::read_answers`: what its loop keeps, by the lemmas of LogReadings and TextLists.
 use Rattle.std.proofs.Common.{◌+◌, ℕ, List, map, drop, sym, ap, ◌∙◌}
 use Rattle.amo_run_log.specs.declared.finding.Finding.{Finding}
 use Rattle.amo_run_log.specs.Findings.{finding_in}

@@ -1,3 +1,4 @@
+-- The facts that each pass of a loop of `ReadLogs::read_answers` keeps.
 use Rattle.std.proofs.Common.{◌≡◌, map, drop}
 use Rattle.amo_run_log.specs.ReadLogs.{findings_after}
 use Rattle.amo_run_log.proofs.read_logs.ReadLogs.read_answers.Given as goal

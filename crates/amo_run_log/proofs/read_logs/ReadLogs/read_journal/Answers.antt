@@ -1,3 +1,5 @@
+-- `ReadLogs::read_journal`: what its loop keeps and its promises, by the lemmas of ByLine,
+-- LogReadings and TextLists.
 use Rattle.std.proofs.Common.{◌+◌, ◌≤◌, ℕ, true, false, List, length, map, drop, sym, ap, subst, ◌∙◌, arith}
 use Rattle.amo_run_log.specs.Entries.{append_in, entries_of_append}
 use Rattle.amo_run_log.specs.ReadLogs.{journals_after, NotesEntries}

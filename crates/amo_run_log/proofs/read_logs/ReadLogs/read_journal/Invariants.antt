@@ -1,3 +1,4 @@
+-- The facts that each pass of a loop of `ReadLogs::read_journal` keeps.
 use Rattle.std.proofs.Common.{◌≡◌, ◌≤◌, length, map, drop}
 use Rattle.amo_run_log.specs.ReadLogs.{journals_after}
 use Rattle.amo_run_log.proofs.ByLine.{attempts_in}

@@ -1,3 +1,4 @@
+-- `ReadLogs::standing`: its promises, by the lemmas of ByLine and ClearTests.
 use Rattle.std.proofs.Common.{List, subst}
 use Rattle.std.specs.Prelude.{IfNone, IfSome}
 use Rattle.amo_run_log.specs.declared.finding.Finding.{Finding}

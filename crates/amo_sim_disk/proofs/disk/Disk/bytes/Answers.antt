@@ -1,3 +1,4 @@
+-- `Disk::bytes`: its promises, by the lemmas of Possible.
 use Rattle.std.proofs.Common.{◌≡◌, List, ℕ, reverse, sym, subst, rules}
 use Rattle.amo_sim_disk.specs.Disk.{disk_story}
 use Rattle.amo_sim_disk.specs.Replay.{OutcomeIn, read_in}

@@ -1,3 +1,4 @@
+-- `Disk::image_after`: what its loop keeps, by the lemmas of Noting.
 use Rattle.std.proofs.Common.{◌≡◌, ◌<◌, ℕ, List, get_or, length, take, sym, ◌∙◌, ap, subst, rules}
 use Rattle.amo_sim_disk.specs.Calls.{read_after}
 use Rattle.amo_sim_disk.specs.Replay.{OutcomeIn, Story, read_in, story_of}

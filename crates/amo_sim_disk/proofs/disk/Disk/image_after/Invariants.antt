@@ -1,3 +1,4 @@
+-- The facts that each pass of a loop of `Disk::image_after` keeps.
 use Rattle.std.proofs.Common.{◌≡◌, take}
 use Rattle.amo_sim_disk.specs.Replay.{OutcomeIn, read_in, story_of}
 use Rattle.amo_sim_disk.proofs.disk.Disk.image_after.Given as goal

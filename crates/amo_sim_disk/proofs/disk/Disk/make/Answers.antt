@@ -1,3 +1,4 @@
+-- `Disk::make`: what its type keeps, by the lemmas of Noting.
 use Rattle.std.proofs.Common.{◌≡◌, ℕ, [], ◌∷◌, ◌++◌, length, sym, ◌∙◌, ap, rules}
 use Rattle.std.proofs.lemmas.List.{length-reverse}
 use Rattle.amo_sim_disk.specs.Calls.{has_failed, is_planned, read_after}

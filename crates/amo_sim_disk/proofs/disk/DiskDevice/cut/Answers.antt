@@ -1,3 +1,4 @@
+-- `DiskDevice::cut`: its promises, by the lemmas of Ends.
 use Rattle.std.proofs.Common.{◌≡◌, rules}
 use Rattle.amo_sim_disk.specs.Calls.{cut_call}
 use Rattle.amo_sim_disk.specs.Disk.{disk_story}

@@ -1,3 +1,4 @@
+-- `DiskDevice::read`: its promises, by the lemmas of Ends.
 use Rattle.amo_sim_disk.specs.Disk.{disk_story}
 use Rattle.amo_sim_disk.proofs.Ends.{time_on}
 use Rattle.amo_sim_disk.proofs.disk.DiskDevice.read.Goals as goal

@@ -1,3 +1,4 @@
+-- `DiskDevice::sync`: its promises, by the lemmas of Ends.
 use Rattle.std.proofs.Common.{◌≡◌, rules}
 use Rattle.amo_sim_disk.specs.Calls.{sync_call}
 use Rattle.amo_sim_disk.specs.Disk.{disk_story}

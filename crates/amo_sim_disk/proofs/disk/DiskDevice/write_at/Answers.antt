@@ -1,3 +1,4 @@
+-- `DiskDevice::write_at`: its promises, by the lemmas of Ends.
 use Rattle.std.proofs.Common.{◌≡◌, List, ℕ, subst, rules}
 use Rattle.amo_journal.specs.Device.{WritesFront}
 use Rattle.amo_sim_disk.specs.Calls.{IsWrite}

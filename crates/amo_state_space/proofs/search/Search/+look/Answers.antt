@@ -1,3 +1,4 @@
+-- `Search::look`: the premises of its calls, by the lemmas of Left.
 use Rattle.std.proofs.Common.{sym, ◌∙◌, arith}
 use Rattle.amo_kk.specs.World.{world_of}
 use Rattle.amo_state_space.proofs.Left.{next_less, next_stops, next_few}

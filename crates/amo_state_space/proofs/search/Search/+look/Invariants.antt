@@ -1,3 +1,4 @@
+-- The facts that each pass of a loop of `Search::look` keeps.
 use Rattle.std.proofs.Common.{◌≡◌}
 use Rattle.amo_state_space.proofs.Left.{left}
 use Rattle.amo_state_space.proofs.search.Search.+look.Given as goal

@@ -1,3 +1,5 @@
+-- `Search::back`: the premises of its calls and what its type keeps, by the lemmas of WithinLemmas
+-- (amo_plan) and Paths.
 use Rattle.std.proofs.Common.{take, ap, ◌∙◌}
 use Rattle.amo_plan.proofs.WithinLemmas.{in_range-take}
 use Rattle.amo_state_space.proofs.Paths.{search_back}

@@ -1,3 +1,4 @@
+-- `Search::make`: what its type keeps, by the lemmas of Paths.
 use Rattle.std.proofs.Common.{sym, subst}
 use Rattle.amo_givens.specs.Givens.{IsWorker}
 use Rattle.amo_givens.specs.Moves.{worker_of}

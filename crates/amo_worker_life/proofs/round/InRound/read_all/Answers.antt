@@ -1,3 +1,5 @@
+-- `InRound::read_all`: the premises of its calls, what its loop keeps and its promises, by the
+-- lemmas of Clearing.
 use Rattle.std.proofs.Common.{◌+◌, ◌-◌, subst, ◌∙◌, List}
 use Rattle.amo_givens.specs.declared.limits.TheConstants.{MAX_WORKERS}
 use Rattle.amo_host.specs.declared.model.LogFile.{LogFile}

@@ -1,3 +1,4 @@
+-- The facts that each pass of a loop of `InRound::read_all` keeps.
 use Rattle.std.proofs.Common.{◌≡◌, ◌+◌, ◌-◌}
 use Rattle.amo_givens.specs.declared.limits.TheConstants.{MAX_WORKERS}
 use Rattle.amo_host.specs.Logs.{journals_from}

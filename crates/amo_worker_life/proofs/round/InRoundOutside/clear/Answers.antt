@@ -1,3 +1,4 @@
+-- `InRoundOutside::clear`: the premises of its calls, by the lemmas of Clearing.
 use Rattle.amo_worker_life.specs.Reading.{logs_of}
 use Rattle.amo_worker_life.specs.Where.{me_of}
 use Rattle.amo_worker_life.proofs.Clearing.{clearing_of}

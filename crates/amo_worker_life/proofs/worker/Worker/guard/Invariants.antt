@@ -1,3 +1,4 @@
+-- The facts that each pass of a loop of `Worker::guard` keeps.
 use Rattle.std.proofs.Common.{◌≡◌}
 use Rattle.amo_host.specs.Phase.{Starts, Unborn}
 use Rattle.amo_worker_life.proofs.worker.Worker.guard.Given as goal

@@ -1,3 +1,4 @@
+-- `Worker::know`: its promises, by the lemmas of Unreadable.
 use Rattle.std.proofs.Common.{map, arith}
 use Rattle.amo_worker_life.proofs.Unreadable.{unread_for}
 use Rattle.amo_worker_life.proofs.worker.Worker.know.Goals as goal

@@ -1,3 +1,4 @@
+-- `Worker::make_file`: the premises of its calls and its promises, by the lemmas of Begins.
 use Rattle.std.proofs.Common.{sym, subst}
 use Rattle.amo_host.specs.Phase.{Begins, Ended, RoundMade}
 use Rattle.amo_host.specs.Protocol.{Lives}

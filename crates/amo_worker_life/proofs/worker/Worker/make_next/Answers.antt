@@ -1,3 +1,4 @@
+-- `Worker::make_next`: the premises of its calls, directly from definitions and clauses.
 use Rattle.std.proofs.Common.{◌≡◌, ℕ, List, length, sym, subst, ◌∙◌}
 use Rattle.amo_run_log.specs.Open.{open_lines}
 use Rattle.amo_host.specs.Beginning.{IsNext, IsNextFile}

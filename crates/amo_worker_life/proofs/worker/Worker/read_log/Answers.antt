@@ -1,3 +1,4 @@
+-- `Worker::read_log`: its promises, directly from definitions and clauses.
 use Rattle.std.proofs.Common.{◌≡◌, ℕ, List, Vec, Global, None, map, true, refl, sym, subst}
 use Rattle.std.specs.Prelude.{option_map}
 use Rattle.amo_host.specs.Calls.{LogIs}

@@ -1,3 +1,5 @@
+-- `Worker::read_logs`: the premises of its calls, what its loop keeps and its promises, by the
+-- lemmas of AllLogs and Clearing.
 use Rattle.std.proofs.Common.{◌+◌, ◌-◌, List, option_map, subst, ◌∙◌}
 use Rattle.std.specs.Prelude.{Result, Ok, Err, OnErr}
 use Rattle.amo_givens.specs.declared.limits.TheConstants.{MAX_WORKERS}

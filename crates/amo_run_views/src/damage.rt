@@ -1,4 +1,4 @@
-//! To show what can be read of a run that is refused.
+//! Showing what can be read of a run that is refused.
 use amo_run_dir::{DamagedRun, Fault, Item, ReadableLog, Setting, look_for_damage};
 use amo_run_host::print;
 use amo_run_log::{Append, Entry};
@@ -8,12 +8,13 @@ use std::rt::HostRuntime;
 /// An intent that can be read: its line, and whose it is.
 type Named = (u64, u64, u64);
 
-/// Prints what can be read of each file, what is wrong with it, and of each line by which attempts
-/// it was tried, or that this isn't known.
+/// Prints the readable part of each file, and the file's fault. Prints for each line the attempts
+/// at it, or that they aren't known.
 ///
 /// # Errors
+///
 /// `DamagedRun` if something is wrong.
-pub(crate) fn show_damage(rt: HostRuntime, setting: &Setting<'_>) -> Result<(), Fault> {
+pub fn show_damage(rt: HostRuntime, setting: &Setting<'_>) -> Result<(), Fault> {
     let run = look_for_damage(rt, setting)?;
     print_run(rt, &run)?;
     if run.is_damaged() {
@@ -54,7 +55,7 @@ fn item_of(i: usize) -> Item {
     }
 }
 
-/// Adds a line that says what is wrong with a file, if something is.
+/// Adds a line with the fault of a file, if it has one.
 fn push_wrong(
     alloc: Global,
     text: &mut Vec<u8>,

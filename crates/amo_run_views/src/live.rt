@@ -1,5 +1,5 @@
-//! To follow a run: to print a line of JSON a second, without any lock. Nothing is recovered, made
-//! or written. Start with [`follow`].
+//! Following of a run: it prints a line of JSON a second, without any lock. Nothing is recovered,
+//! made or written. Start with [`follow`].
 use amo_givens::MAX_WORKERS;
 use amo_run_dir::{
     Age, Fault, FollowedFiles, Item, Setting, bytes_of, known, look_to_read, record_of,
@@ -51,7 +51,7 @@ struct FollowedRun<'a> {
 /// # Errors
 /// As [`look_to_read`], and `OldRun` if version 0.1.0 has made the folder. `Later` if a journal
 /// can't be read on: then the same command begins anew. `Write` if the output is closed.
-pub(crate) fn follow(rt: HostRuntime, setting: &Setting<'_>, is_once: bool) -> Result<(), Fault> {
+pub fn follow(rt: HostRuntime, setting: &Setting<'_>, is_once: bool) -> Result<(), Fault> {
     if look_to_read(rt, setting)? == Age::Old {
         return Err(Fault::OldRun);
     }
@@ -153,7 +153,8 @@ impl<'a> FollowedRun<'a> {
         }
     }
 
-    /// Returns how many lines stand how. A pending attempt counts as running: nobody has looked.
+    /// Returns the number of lines of each status. A pending attempt counts as running: nobody has
+    /// looked.
     fn count(&self) -> Result<Counts, Fault> {
         let log = RunLog {
             findings: self.logs.findings(),
