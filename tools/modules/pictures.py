@@ -58,17 +58,20 @@ def life() -> str:
         text(415, 136, "clear", "f"),
         *(arrow([(610, 144), (645, 144), (645, y + 24), (680, y + 24)]) for y, *_ in ends),
         arrow([(300, 120), (300, 80), (80, 80), (80, 120)]),
-        text(88, 72, "not started, or another attempt stands", "f"),
+        text(150, 72, "not started", "f"),
         *(line([(890, y + 24), (915, y + 24)]) for y, *_ in ends[1:]),
         arrow([(915, 248), (915, 44), (890, 44)]), text(925, 48, "you answer done", "f"),
         arrow([(915, 248), (915, 310), (80, 310), (80, 168)]),
         text(330, 304, "you answer not-done, or `again` if it is untouched", "f"),
         text(20, 340, "Once a command was started, nothing leads back to open automatically."),
+        text(20, 360, "If another attempt stands, the command isn't started, and that attempt"
+             " decides."),
     ]
-    return picture(1050, 356, "The life of a line",
+    return picture(1050, 376, "The life of a line",
                    "An open line is attempted: its intent is on the disk. If no other attempt"
                    " stands, its command runs. It is then done, failed, untouched or in doubt. A"
-                   " line that was not started is open again. If a line failed, is untouched or in"
+                   " line that was not started is open again. If another attempt stands, that"
+                   " attempt decides. If a line failed, is untouched or in"
                    " doubt, the operator's answer not-done opens it, and the answer done closes"
                    " it.", shapes)
 

@@ -25,7 +25,7 @@ class Repeat(NamedTuple):
 def paragraphs(text: str) -> Iterator[list[str]]:
     """Yields the words of each paragraph and list item, without the targets of links."""
     for part in re.split(r"\n\s*\n|\n(?=\s*(?:[-|]|\d+\.) )", BLOCK.sub("", text)):
-        if not part.lstrip().startswith(("|", "#", "    ")):
+        if not part.startswith("    ") and not part.lstrip().startswith(("|", "#")):
             yield re.findall(r"[\w']+", LINK.sub("]", part).lower())
 
 

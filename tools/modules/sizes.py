@@ -29,6 +29,8 @@ PARTS = [
     ("Python of `amo_jobs` and `amo_share`", ["python/amo_jobs/*.py"], "#"),
     ("C of `amo_jobs`", ["python/amo_jobs/*.c"], "//"),
 ]
+# The declaration of a limit that a page shows.
+LIMIT = re.compile(r"^pub const (MAX_\w+|MOST_MOVES|MOST_ROUNDS): \w+ = ([\d_]+);", re.M)
 
 
 class Row(NamedTuple):
@@ -124,3 +126,39 @@ def wrong_counts(text: str, found: list[Row]) -> list[str]:
             for lines, count in pairs
             if not any(is_near(number(lines), it.lines) and is_near(number(count), it.amount)
                        for it in found)]
+
+
+def files_in(path: str) -> list[str]:
+    """Returns a file, or the files of a folder and its folders; none if there is no such path."""
+    inside = glob.glob(f"{path}/**", recursive=True)
+    return [it for it in (path, *inside) if os.path.isfile(it)]
+
+
+def all_lines(path: str) -> int:
+    """Returns how many lines a file has, or the files of a folder."""
+    found = 0
+    for it in files_in(path):
+        with open(it, encoding="utf-8", errors="replace") as file:
+            found += sum(1 for _ in file)
+    return found
+
+
+def wrong_lines(text: str) -> list[str]:
+    """Returns each path of a text, from the top of the repository, whose number of lines is wrong.
+    A text says it as `PATH`, N lines; the path may be a link."""
+    pairs = re.findall(r"`([\w./-]+)`(?:\]\([^)]*\))?, ([\d,]+) lines", text)
+    return [f"{path}: it has {all_lines(path)} lines, and not {lines}" for path, lines in pairs
+            if not is_near(number(lines), all_lines(path))]
+
+
+def missing_limits(text: str, root: str) -> list[str]:
+    """Returns each limit of runs and plans that the section on limits of a page doesn't have."""
+    section = re.search(r"^## Limits\n(.*?)(?=^## |\Z)", text, re.M | re.S)
+    shown = {number(it) for it in re.findall(r"\d[\d,]*", section[1])} if section else set()
+    wrong = []
+    for path in sorted(glob.glob(f"{root}/crates/*/src/limits.rt")):
+        with open(path, encoding="utf-8") as file:
+            found = LIMIT.findall(file.read())
+        wrong += [f"{name}: the limit {value} is missing below `## Limits`" for name, value in found
+                  if int(value.replace("_", "")) not in shown]
+    return wrong
