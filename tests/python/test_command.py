@@ -21,7 +21,7 @@ from amo_jobs.processes import Family
 from amo_jobs.runner_state import Rest
 from amo_jobs.settings import Settings
 from amo_jobs.starter import OUTPUTS, Starter
-from test_processes import until
+from package import until
 
 SHOWS = """
 import os, signal, sys

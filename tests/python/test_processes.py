@@ -9,7 +9,7 @@ import time
 import unittest
 from unittest import mock
 
-import package  # noqa: F401
+from package import until
 from amo_jobs import calls
 from amo_jobs.calls import Process
 from amo_jobs.processes import (
@@ -17,16 +17,6 @@ from amo_jobs.processes import (
 )
 
 SLEEPS = "exec sleep 60"
-SECONDS = 600  # for a loaded machine
-
-
-def until(is_so):
-    """Waits for something, far longer than a loaded machine needs for it."""
-    end = time.monotonic() + SECONDS
-    while not is_so():
-        if time.monotonic() > end:
-            raise AssertionError("it never is so")
-        time.sleep(0.005)
 
 
 def process_of(number):

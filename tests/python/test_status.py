@@ -7,9 +7,9 @@ import time
 import unittest
 from unittest import mock
 
-import package  # noqa: F401
+from package import until
 
-from amo_jobs import processes, status
+from amo_jobs import calls, processes, status
 from amo_jobs.statuses import KINDS, Status
 
 NONE = dict.fromkeys(KINDS, 0)
@@ -88,6 +88,8 @@ class Lists(unittest.TestCase):
                 for it in files:
                     it.close()
                 try:
+                    # the kernel shows the words a moment after it has begun the program
+                    until(lambda: calls.words_of(process.pid))
                     return status.holders(run, ["1.2", "1.3"]), process.pid
                 finally:
                     process.kill()
