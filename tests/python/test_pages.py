@@ -1,6 +1,9 @@
 """The parts of tools/pages: numbers that are measured, paragraphs that stand twice, pictures."""
 
+import ast
+import glob
 import os
+import re
 import sys
 import tempfile
 import unittest
@@ -67,6 +70,46 @@ class Sizes(unittest.TestCase):
         page = "## Limits\n\nUp to 4096 jobs, and 100,000 moves.\n\n## Next\n\n100,000\n"
         self.assertEqual(sizes.missing_limits(page, self.room), [])
         self.assertEqual(len(sizes.missing_limits(page.replace("100,000 m", "m"), self.room)), 1)
+
+
+def literals(path):
+    """Returns the texts of a Python module; what is filled in later is a line feed in them."""
+    with open(path, encoding="utf-8") as file:
+        nodes = list(ast.walk(ast.parse(file.read())))
+    plain = [it.value for it in nodes if isinstance(it, ast.Constant) and isinstance(it.value, str)]
+    return plain + ["".join(part.value if isinstance(part, ast.Constant) else "\n"
+                            for part in it.values) for it in nodes if isinstance(it, ast.JoinedStr)]
+
+
+def pieces(message):
+    """Returns the parts of a message that stand in a source: not its numbers, nor what is left
+    out."""
+    return [it for it in re.split(r" ?\.\. ?|\d+|[,;] ", message) if len(it) > 5]
+
+
+class Messages(unittest.TestCase):
+    """The questions by message, next to the sources of the programs."""
+
+    def setUp(self):
+        self.texts = [it for path in glob.glob(f"{ROOT}/python/amo_jobs/*.py")
+                      for it in literals(path)]
+        for path in glob.glob(f"{ROOT}/crates/*/src/*.rt"):
+            with open(path, encoding="utf-8") as file:
+                self.texts.append(file.read())
+
+    def is_printed(self, message):
+        """Returns true if each piece of a message stands in a source."""
+        return all(any(piece in it for it in self.texts) for piece in pieces(message))
+
+    def test_the_page_has_a_message_that_no_program_prints(self):
+        with open(f"{ROOT}/docs/guide/operating.md", encoding="utf-8") as file:
+            table = re.search(r"^## Questions by message\n(.*?)^## ", file.read(), re.M | re.S)[1]
+        messages = re.findall(r"^\| `([^`]+)`", table, re.M)
+        self.assertGreater(len(messages), 12)
+        self.assertEqual([it for it in messages if not self.is_printed(it)], [])
+
+    def test_a_message_that_is_not_there_is_found(self):
+        self.assertFalse(self.is_printed("another crew, process 29885, sleeps in this folder"))
 
 
 class Repeats(unittest.TestCase):
