@@ -50,6 +50,7 @@ pub record Site : Type 0 where
   -- the attempts whose lines were performed, the last one first
   pub performed : List Handing
 
+-- the site at first: no attempt, and no process
 abbrev pub first_site : Site
 first_site = record { kept = λ p. []; stage = λ p. Away; opened = []; alive = []; performed = [] }
 

@@ -2,6 +2,7 @@
 use Rattle.std.specs.Prelude.{◌≡◌, ◌⊎◌, ◌≤◌, ◌<◌, ℕ, List, [], ◌∷◌, Some}
 use Rattle.amo_clearance_safety.specs.Model.{Attempt, Handing, IsOneOf, Away, Free, Wanting, Clearing, Site, first_site, site_after, Event, Dies, Begins, Lands, Wants, Intends, Looks, HandsOver, Performs, Ends, Opens, line_of}
 
+-- The rule that a worker keeps before it hands an attempt over.
 pub data Rule : Type 0 where
   -- it looks at all journals after its intent is acknowledged
   Clearance : Rule
@@ -100,5 +101,6 @@ abbrev pub site_from : Site → List Event → Site
 site_from w [] = w
 site_from w (e ∷ es) = site_from (site_after w e) es
 
+-- the site after all these events, from the first site on
 abbrev pub site_of : List Event → Site
 site_of es = site_from first_site es

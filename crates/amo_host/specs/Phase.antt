@@ -66,6 +66,7 @@ pub data Purpose : Type 0 where
   -- To begin a round by the list, which has these bytes. The run knew the lines of the bytes `known`.
   ToBegin : (boot : List ℕ) → (last : Option RoundFile) → (known list : List ℕ) → Purpose
 
+-- The phase of a worker's process: the point that it has come to.
 pub data Phase : Type 0 where
   -- The process of the worker of this number takes that number.
   Starts : (worker : ℕ) → Start → Phase

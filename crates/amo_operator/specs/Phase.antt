@@ -28,6 +28,7 @@ pub record Known : Type 0 where
   -- Whether attempts that are found final are recorded as in doubt. After an append has failed nothing more is recorded.
   pub records : Bool
 
+-- The phase of an operator's command: the point that it has come to.
 pub data Phase : Type 0 where
   -- It has no lock. It has tried that of the answers if `tried` is true.
   Enters : Command → (tried : Bool) → Phase

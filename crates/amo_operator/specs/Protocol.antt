@@ -49,6 +49,7 @@ abbrev pub checks_on : Command → Call → Phase
 checks_on command (FolderIsKept kept) = Checked command
 checks_on command c = Ended
 
+-- The phase after the call that reads the header.
 abbrev pub header_on : Command → Call → Phase
 header_on command (RoundIs last) = HasHeader command last
 header_on command c = Ended
@@ -63,10 +64,12 @@ abbrev pub reads_to : Command → Option RoundFile → Texts → (left : List �
 reads_to command last t [] = Checks command last t
 reads_to command last t (w ∷ left) = Reads command last t (w ∷ left)
 
+-- The phase after the call that reads the answers.
 abbrev pub answers_on : Command → Option RoundFile → Call → Phase
 answers_on command last (LogIs log from texts) = reads_to command last (record { answers = texts; journals = []; alive = []; idle = [] }) all_workers
 answers_on command last c = Ended
 
+-- The phase after the call that reads a journal.
 abbrev pub reads_on : Command → Option RoundFile → Texts → (left : List ℕ) → Call → Phase
 reads_on command last t (w ∷ left) (LogIs log from texts) = reads_to command last (and_journal t texts) left
 reads_on command last t left c = Ended
@@ -76,10 +79,12 @@ abbrev pub sound_if : Command → Option RoundFile → Texts → Option Known �
 sound_if command last t None = Ended
 sound_if command last t (Some k) = has_read command last t (only_looks command)
 
+-- The phase after the call that reads the lines.
 abbrev pub sound_on : Command → Option RoundFile → Texts → Call → Phase
 sound_on command last t (JobsAre from lines) = sound_if command last t (known_in (length lines) lines t (records_doubts command))
 sound_on command last t c = Ended
 
+-- The phase after the call that recovers the answers.
 abbrev pub settles_on : Command → Option RoundFile → Texts → Call → Phase
 settles_on command last t (Recovered log from texts) = Looks command last (record t { answers = texts }) all_workers
 settles_on command last t c = Ended
@@ -94,6 +99,7 @@ abbrev pub probes_if : Command → (idle : List ℕ) → Option Known → Phase
 probes_if command idle None = Ended
 probes_if command idle (Some k) = Probes command k (pending_of idle k.journals)
 
+-- The phase after the call that tries a worker's lock, or reads the lines again.
 abbrev pub looks_on : Command → Option RoundFile → Texts → (left : List ℕ) → Call → Phase
 looks_on command last t [] (JobsAre from lines) = probes_if command t.idle (known_in (length lines) lines t (records_doubts command))
 looks_on command last t (w ∷ left) (Tried lock got) = looks_if command last t w left got
@@ -105,6 +111,7 @@ behind_if command last t w left (Some true) = Pends command last t w left
 behind_if command last t w left (Some false) = Rests command last t w left
 behind_if command last t w left None = Ended
 
+-- The phase after the call that reads a journal under its lock.
 abbrev pub behind_on : Command → Option RoundFile → Texts → (worker : ℕ) → (left : List ℕ) → Call → Phase
 behind_on command last t w left (LogIs log from texts) = behind_if command last (with_journal t w texts) w left (pends texts)
 behind_on command last t w left c = Ended
@@ -114,14 +121,17 @@ abbrev pub pends_if : Command → Option RoundFile → Texts → (worker : ℕ) 
 pends_if command last t w left true = Idles command last t w left
 pends_if command last t w left false = Rests command last t w left
 
+-- The phase after the call that tries the lock of a runner.
 abbrev pub pends_on : Command → Option RoundFile → Texts → (worker : ℕ) → (left : List ℕ) → Call → Phase
 pends_on command last t w left (Tried lock got) = pends_if command last t w left got
 pends_on command last t w left c = Ended
 
+-- The phase after the call that recovers a journal under its lock.
 abbrev pub idles_on : Command → Option RoundFile → Texts → (worker : ℕ) → (left : List ℕ) → Call → Phase
 idles_on command last t w left (Recovered log from texts) = Looks command last (record (with_journal t w texts) { idle = t.idle ++ w ∷ [] }) left
 idles_on command last t w left c = Ended
 
+-- The phase after the call that unlocks a journal.
 abbrev pub rests_on : Command → Option RoundFile → Texts → (left : List ℕ) → Call → Phase
 rests_on command last t left (HasUnlocked worker) = Looks command last t left
 rests_on command last t left c = Ended
@@ -153,11 +163,13 @@ acts (Doubts form) k time = Reports (doubts_of form k time)
 acts (Answer said quiet) k time = decides (Answer said quiet) (judged_all k quiet time (none_judged k) said.items)
 acts Again k time = Puts (again_at k time)
 
+-- The phase after the call that tries the lock of an attempt, or reads the clock.
 abbrev pub probes_on : Command → Known → (left : List AttemptId) → Call → Phase
 probes_on command k [] (TimeIs time) = acts command k time
 probes_on command k (i ∷ left) (Tried lock got) = probed_if command k i left got
 probes_on command k left c = Ended
 
+-- The phase after the call that reads the clock for a doubt.
 abbrev pub finds_on : Command → Known → AttemptId → (left : List AttemptId) → Call → Phase
 finds_on command k i left (TimeIs time) = Dates command k i time left
 finds_on command k i left c = Ended
@@ -167,22 +179,27 @@ abbrev pub dates_on : Command → Known → AttemptId → (time : ℕ) → (left
 dates_on command k i time left (HasPutDoubt attempt at) = Records command (with_doubt k i time) i left
 dates_on command k i time left c = Probes command (without_records k) left
 
+-- The phase after the call that removes the lock of a recorded attempt.
 abbrev pub records_on : Command → Known → (left : List AttemptId) → Call → Phase
 records_on command k left (HasRemoved attempt) = Probes command k left
 records_on command k left c = Ended
 
+-- The phase after the call that gives up all locks before the text is printed.
 abbrev pub reports_on : (text : List ℕ) → Call → Phase
 reports_on text HasUnlockedAll = Prints text
 reports_on text c = Ended
 
+-- The phase after the call that prints a text.
 abbrev pub prints_on : Call → Phase
 prints_on (HasPrinted text) = Puts []
 prints_on c = Ended
 
+-- The phase after the call that gives up all locks before a new try.
 abbrev pub waits_on : Command → Call → Phase
 waits_on command HasUnlockedAll = Enters command false
 waits_on command c = Ended
 
+-- The phase after the call that appends an answer.
 abbrev pub puts_on : (left : List Finding) → Call → Phase
 puts_on (f ∷ left) (HasPutAnswer answer) = Puts left
 puts_on left c = Ended

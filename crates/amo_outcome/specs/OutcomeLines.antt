@@ -43,6 +43,7 @@ abbrev pub text_of_answer : Option Answer → List ℕ
 text_of_answer None = []
 text_of_answer (Some answer) = answer_text answer
 
+-- the text of the answer at this place of an output, or nothing without an output
 abbrev pub text_in : ℕ → Option Handed → List ℕ
 text_in place None = []
 text_in place (Some x) = text_of_answer (slice_get x.out.items place)
@@ -70,6 +71,7 @@ fate_line j place name None output None = free_line j name
 abbrev pub block_of : ℕ → ℕ → ℕ
 block_of block j = suc ((j - 1) / block)
 
+-- the place of job j in its block, from 0
 abbrev pub place_of : ℕ → ℕ → ℕ
 place_of block j = (j - 1) % block
 

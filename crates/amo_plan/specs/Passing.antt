@@ -5,6 +5,7 @@ use Rattle.amo_plan.specs.declared.fault.PlanFault.TheVariants.{NoMemory}
 
 -- a test that passed, and the next
 infixl 10 ◌>>=◌
+-- the next test on the value of a test that passed, or its fault
 abbrev pub ◌>>=◌ : {A B : Type 0} → Result A PlanFault → (A → Result B PlanFault) → Result B PlanFault
 (Ok x) >>= f = f x
 (Err e) >>= f = Err e

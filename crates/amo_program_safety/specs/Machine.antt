@@ -19,6 +19,7 @@ pub record Operator : Type 0 where
   -- The request of the call that the command is in, if the append of this request is already written.
   pub writes : Option Request
 
+-- The processes of `work` with their logs, and the operators' commands.
 pub record Machine : Type 0 where
   pub world : World
   -- The living processes of operators' commands, by their process ids. These ids are separate from the ids of workers' processes.

@@ -160,5 +160,6 @@ first_world = record { logs = λ log. record { kept = []; rest = [] }; process =
 abbrev pub IsRun : List Event → Type 0
 IsRun es = IsRunFrom first_world es
 
+-- The world after these events, from the first world on.
 abbrev pub world_of : List Event → World
 world_of es = world_from first_world es

@@ -88,6 +88,7 @@ machine_from m (s ∷ steps) = machine_from (machine_after m s) steps
 abbrev pub IsRun : List Step → Type 0
 IsRun steps = IsRunFrom first_machine steps
 
+-- The machine after these steps, from the first machine on.
 abbrev pub machine_of : List Step → Machine
 machine_of steps = machine_from first_machine steps
 

@@ -79,16 +79,19 @@ abbrev pub IsKeptWithout : Premise → World → (worker serial : ℕ) → Type 
 IsKeptWithout AnswersFollowIntents w worker serial = ⊤
 IsKeptWithout premise w worker serial = (line : ℕ) × (line_of (lines_in (w.logs (Journal worker)).kept) serial ≡ Some line)
 
+-- No process is about to hand this attempt over, unless this premise is left out.
 abbrev pub IsNotHeldWithout : Premise → World → (worker serial : ℕ) → Type 0
 IsNotHeldWithout HeldAreNotAnswered w worker serial = ⊤
 IsNotHeldWithout premise w worker serial =
     (process : ℕ) (p : Process) → w.process process ≡ Some p → p.worker ≡ worker → p.writes ≡ None → held_in p.phase ≡ Some serial
     → (h : Handing) × IsOneOf w.handed h × IsNamed worker serial h
 
+-- No runner has this attempt, unless this premise is left out.
 abbrev pub IsNotAliveWithout : Premise → World → (worker serial : ℕ) → Type 0
 IsNotAliveWithout LiveAreNotAnswered w worker serial = ⊤
 IsNotAliveWithout premise w worker serial = (h : Handing) → IsOneOf w.alive h → IsNamed worker serial h → ⊥
 
+-- This attempt has not performed its line, unless this premise is left out.
 abbrev pub IsNotPerformedWithout : Premise → World → (worker serial : ℕ) → Type 0
 IsNotPerformedWithout PerformedAreNotAnswered w worker serial = ⊤
 IsNotPerformedWithout premise w worker serial = (h : Handing) → IsOneOf w.performed h → IsNamed worker serial h → ⊥

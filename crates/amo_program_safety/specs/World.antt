@@ -36,6 +36,7 @@ pub record Process : Type 0 where
   -- The appends that the process has read of each log. A later read of the log goes on after them.
   pub read : LogFile → List (List ℕ)
 
+-- The state of a run: its logs, the living processes of workers with their locks, and the attempts that were handed over.
 pub record World : Type 0 where
   pub logs : LogFile → Log
   -- The living processes, by their process ids.

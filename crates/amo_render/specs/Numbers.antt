@@ -18,6 +18,7 @@ numbers_part version block jobs g =
 unfoldable pub first_words : ℕ → ℕ → ℕ → Givens → List ℕ
 first_words version block jobs g = numbers_part version block jobs g ++ codes " bound " ++ decimal (bound g)
 
+-- the line of these numbers and the bound
 unfoldable pub first_line : ℕ → ℕ → ℕ → Givens → List ℕ
 first_line version block jobs g = first_words version block jobs g ++ codes "\n"
 

@@ -18,6 +18,7 @@ blocks_words dones jobs = codes "performed blocks " ++ decimal dones ++ codes " 
 unfoldable pub tally_words : ℕ → ℕ → ℕ → List ℕ
 tally_words version dones jobs = if version == 1 then jobs_words dones else blocks_words dones jobs
 
+-- the line of so many done blocks and jobs
 unfoldable pub tally_line : ℕ → ℕ → ℕ → List ℕ
 tally_line version dones jobs = tally_words version dones jobs ++ codes "\n"
 
@@ -25,6 +26,7 @@ tally_line version dones jobs = tally_words version dones jobs ++ codes "\n"
 abbrev pub performed_words : ℕ → ℕ → ℕ → List ℕ → List ℕ
 performed_words version block jobs dones = tally_words version (length dones) (sum_by (jobs_in_block block jobs) dones)
 
+-- the line of these done blocks, and of their jobs
 abbrev pub performed_line : ℕ → ℕ → ℕ → List ℕ → List ℕ
 performed_line version block jobs dones = tally_line version (length dones) (sum_by (jobs_in_block block jobs) dones)
 

@@ -86,6 +86,7 @@ first_refused (file ∷ files) = if is_refused file.kind file.len then Some file
 abbrev pub is_hex : ℕ → Bool
 is_hex byte = (nat_le 48 byte && nat_le byte 57) || (nat_le 97 byte && nat_le byte 102)
 
+-- hexadecimal digits alone, no letter a capital
 abbrev pub are_hex : List ℕ → Bool
 are_hex [] = true
 are_hex (b ∷ bytes) = is_hex b && are_hex bytes

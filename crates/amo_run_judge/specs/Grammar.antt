@@ -48,6 +48,7 @@ MayStand (Performs h) = IsWorker h.worker × IsShort h.serial × IsShort h.line
 MayStand (Ends i) = IsShort i
 MayStand (Opens a) = IsWorker a.worker × IsShort a.serial
 
+-- a log may have each of the events
 abbrev pub MayAllStand : List Event → Type 0
 MayAllStand [] = Unit {0}
 MayAllStand (e ∷ es) = MayStand e × MayAllStand es

@@ -32,6 +32,7 @@ pub data Outcome : Type 0 where
   -- it is no log
   IsNoLog : (refusal : Refusal) → Outcome
 
+-- this is the outcome of the text
 abbrev pub IsOutcomeOf : List ℕ → Outcome → Type 0
 IsOutcomeOf text (IsARun es) = IsLog text es × IsRun Clearance MAX_WORKERS es
 IsOutcomeOf text (IsNone before e behind reason) = IsLog text (before ++ e ∷ behind) × IsNoRun before e reason

@@ -32,6 +32,7 @@ numbers_in one other = next (number_in one) (λ a. next (number_in other) (λ b.
 abbrev pub with_number : List (List ℕ) → (ℕ → ℕ → Event) → Result Event Wrong
 with_number words make = next (worker_in (word_at words 1)) (λ p. next (number_in (word_at words 2)) (λ n. Ok (make p n)))
 
+-- the event of a line of two words
 abbrev pub event_of_two : List (List ℕ) → Result Event Wrong
 event_of_two words =
     if has_word 2 (codes "begins") words then next (worker_in (word_at words 1)) (λ p. Ok (Begins p))
@@ -40,6 +41,7 @@ event_of_two words =
     else (if has_word 2 (codes "ends") words then next (number_in (word_at words 1)) (λ i. Ok (Ends i))
     else Err NoEvent)))
 
+-- the event of a line of three words
 abbrev pub event_of_three : List (List ℕ) → Result Event Wrong
 event_of_three words =
     if has_word 3 (codes "lands") words then with_number words (λ p line. Lands p line)
@@ -48,6 +50,7 @@ event_of_three words =
     else (if has_word 3 (codes "opens") words then with_number words (λ p serial. Opens (record { worker = p; serial = serial }))
     else Err NoEvent)))
 
+-- the event of a line of four words
 abbrev pub event_of_four : List (List ℕ) → Result Event Wrong
 event_of_four words =
     if has_word 4 (codes "performs") words then next (worker_in (word_at words 1)) (λ p. next (numbers_in (word_at words 2) (word_at words 3)) (λ n. Ok (Performs (record { worker = p; serial = n.0; line = n.1 }))))

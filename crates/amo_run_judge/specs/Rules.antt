@@ -71,6 +71,7 @@ IsUnseen seen None = (other : ℕ) → other ≤ MAX_WORKERS → has_seen seen o
 IsUnseen seen (Some (NotSeen other)) = (other ≤ MAX_WORKERS) × (has_seen seen other ≡ false)
 IsUnseen seen (Some reason) = ⊥
 
+-- this is the reason why the process at this stage may not hand over, if it may not
 abbrev pub IsHandOverReason : Stage → List ℕ → Option Reason → Type 0
 IsHandOverReason Away seen reason = reason ≡ Some NoIntent
 IsHandOverReason Free seen reason = reason ≡ Some NoIntent

@@ -23,6 +23,7 @@ is_open_at [] i = false
 is_open_at (intent ∷ kept) zero = intent.opened
 is_open_at (intent ∷ kept) (suc i) = is_open_at kept i
 
+-- the attempt of this serial number is opened
 abbrev pub is_opened : List Intent → ℕ → Bool
 is_opened kept zero = false
 is_opened kept (suc i) = is_open_at kept i
@@ -33,6 +34,7 @@ with_open_at [] i = []
 with_open_at (intent ∷ kept) zero = record { line = intent.line; opened = true } ∷ kept
 with_open_at (intent ∷ kept) (suc i) = intent ∷ with_open_at kept i
 
+-- the intents once the attempt of this serial number is opened
 abbrev pub with_opened : List Intent → ℕ → List Intent
 with_opened kept zero = kept
 with_opened kept (suc i) = with_open_at kept i
@@ -48,13 +50,16 @@ abbrev pub kept_of : Option Journal → List Intent
 kept_of None = []
 kept_of (Some j) = j.kept.items
 
+-- the stage of the process that has this journal, or none if the journal is missing
 abbrev pub process_of : Option Journal → Stage
 process_of None = Away
 process_of (Some j) = stage_of j.stage j.seen.items
 
+-- the intents of the journal at this index
 abbrev pub kept_at : List Journal → ℕ → List Intent
 kept_at journals q = kept_of (slice_get journals q)
 
+-- the stage of the process that has the journal at this index
 abbrev pub process_at : List Journal → ℕ → Stage
 process_at journals q = process_of (slice_get journals q)
 

@@ -44,6 +44,7 @@ wrong_text NoNumber = codes "this has no number below 2 to the 64"
 wrong_text WorkerBeyond = codes "this names a worker beyond " ++ decimal MAX_WORKERS
 wrong_text NoLineFeed = codes "this has no line feed at its end"
 
+-- `refused`, and the line with its fault
 unfoldable pub refused_line : ℕ → List ℕ → List ℕ
 refused_line line words = codes "refused\nline " ++ (decimal line ++ (codes ": " ++ (words ++ codes "\n")))
 
@@ -51,6 +52,7 @@ refused_line line words = codes "refused\nline " ++ (decimal line ++ (codes ": "
 abbrev pub refused_text : Refusal → List ℕ
 refused_text refusal = refused_line refusal.line (wrong_text refusal.wrong)
 
+-- `no run`, and the line with its event and the reason
 unfoldable pub no_run_line : ℕ → List ℕ → List ℕ → List ℕ
 no_run_line line event reason = codes "no run: line " ++ (decimal line ++ (codes ": " ++ (event ++ (codes ", but " ++ (reason ++ codes "\n")))))
 
@@ -62,6 +64,7 @@ no_run_text index e reason = no_run_line (index + 1) (event_text e) (reason_text
 unfoldable pub counted : ℕ → List ℕ → List ℕ → List ℕ
 counted count one several = if count == 1 then codes "1 " ++ one else decimal count ++ (codes " " ++ several)
 
+-- `a run`, and the counts of events and performed lines
 unfoldable pub run_line : List ℕ → List ℕ → List ℕ
 run_line events lines = codes "a run: " ++ (events ++ (codes ", " ++ (lines ++ codes " performed, none twice\n")))
 

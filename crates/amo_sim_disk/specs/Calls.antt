@@ -40,19 +40,22 @@ read_after (FailedCut len) read = read
 read_after Sync read = read
 read_after FailedSync read = read
 
--- the call that is made, if it is to fail and if it isn't
+-- the read that is made: nothing is read if it is to fail
 abbrev pub read_call : Bool → Call
 read_call false = Read
 read_call true = FailedRead
 
+-- the write that is made: half of it if it is to fail
 abbrev pub write_call : Bool → ℕ → Vec ℕ Global → Call
 write_call false at bytes = Write at bytes
 write_call true at bytes = FailedWrite at bytes (length bytes.items / 2)
 
+-- the cut that is made
 abbrev pub cut_call : Bool → ℕ → Call
 cut_call false len = Cut len
 cut_call true len = FailedCut len
 
+-- the sync that is made
 abbrev pub sync_call : Bool → Call
 sync_call false = Sync
 sync_call true = FailedSync

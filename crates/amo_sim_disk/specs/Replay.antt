@@ -70,9 +70,11 @@ fails_next story = is_planned story.failing (length story.calls)
 abbrev pub read_in : Story → List ℕ
 read_in story = (state_after story.first story.calls).read
 
+-- a crash may leave this file after the calls of the story
 abbrev pub OutcomeIn : Story → List ℕ → Type 0
 OutcomeIn story = (state_after story.first story.calls).outcomes
 
+-- this place is stale after the calls of the story
 abbrev pub StaleIn : Story → ℕ → Type 0
 StaleIn story = (state_after story.first story.calls).stale
 
@@ -80,6 +82,7 @@ StaleIn story = (state_after story.first story.calls).stale
 abbrev pub call_count : Story → ℕ
 call_count story = length story.calls
 
+-- how many of the calls failed
 abbrev pub fault_count : Story → ℕ
 fault_count story = count_by has_failed story.calls
 

@@ -41,6 +41,7 @@ free_marks n y (j ∷ js) = at_place (place n j) y ++ codes "v-10" ++ free_marks
 unfoldable pub free_title : ℕ → List ℕ
 free_title y = fixed_text FreeTitle ++ anchored_start (codes "end") (codes "f") 64 y ++ codes "none</text>\n"
 
+-- the last lane of the band, with the marks of these unclaimed jobs
 unfoldable pub free_lane : ℕ → ℕ → List ℕ → List ℕ
 free_lane n y js =
     free_title y ++ straight (codes "p") 1 72 y (codes "h") 768

@@ -50,6 +50,7 @@ at_place x y = codes "M" ++ decimal x ++ codes " " ++ decimal y
 abbrev pub area_at : List ℕ → ℕ → ℕ → List ℕ → List ℕ
 area_at c x y shape = area_start c ++ at_place x y ++ shape ++ codes "\"/>\n"
 
+-- a shape at a place, drawn by a line of this width
 abbrev pub stroke_at : List ℕ → ℕ → ℕ → ℕ → List ℕ → List ℕ
 stroke_at c w x y shape = stroke_start c w ++ at_place x y ++ shape ++ codes "\"/>\n"
 

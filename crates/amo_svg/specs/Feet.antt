@@ -17,6 +17,7 @@ state_text history y p turns =
 unfoldable pub counts_words : List Event → ℕ → List ℕ
 counts_words history p = codes "claimed " ++ decimal (count_by (is_claim_of p) history) ++ codes " done " ++ decimal (count_by (is_done_of p) history)
 
+-- the counts of worker p below its lane
 unfoldable pub counts_text : List Event → ℕ → ℕ → List ℕ
 counts_text history y p = text_start (codes "i") (lane p - 20) (y + 30) ++ counts_words history p ++ codes "</text>\n"
 

@@ -27,6 +27,7 @@ jobs_word version = if version == 1 then codes "jobs" else codes "blocks"
 abbrev pub list_start : ℕ → List ℕ
 list_start version = if version == 1 then codes "unclaimed" else codes "unclaimed blocks"
 
+-- the words of these unclaimed jobs, as a list
 abbrev pub listed_words : ℕ → List ℕ → List ℕ
 listed_words version js = list_start version ++ spaced js
 
@@ -55,6 +56,7 @@ description p w js = fixed_text Title ++ heading p w ++ unclaimed_words p.versio
 unfoldable pub ground_end : ℕ → ℕ → List ℕ
 ground_end width height = codes "v" ++ decimal height ++ codes "h-" ++ decimal width ++ codes "z\"/>\n"
 
+-- the ground of a picture of this width and height
 unfoldable pub ground : ℕ → ℕ → List ℕ
 ground width height = area_start (codes "g") ++ codes "M0 0h" ++ decimal width ++ ground_end width height
 
@@ -70,9 +72,11 @@ head p w js width height = svg_start width height ++ description p w js ++ fixed
 unfoldable pub performed_text : PlanSeen → World → ℕ → List ℕ
 performed_text p w y = text (codes "i") 16 y (performed_words p.version p.block (length p.names) (done_jobs w.history))
 
+-- at height y the jobs that nobody has claimed
 unfoldable pub unclaimed_text : ℕ → List ℕ → ℕ → List ℕ
 unclaimed_text version js y = text (codes "i") 16 y (unclaimed_words version js)
 
+-- the foot of a picture: the performed jobs, and below them the unclaimed ones
 unfoldable pub foot : PlanSeen → World → List ℕ → ℕ → List ℕ
 foot p w js y = performed_text p w y ++ unclaimed_text p.version js (y + 16)
 

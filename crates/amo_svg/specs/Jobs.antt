@@ -33,10 +33,12 @@ going_shape Over = codes "m-8 0h16"
 going_shape Left = codes "m-6 -2h12m0 5h-12"
 going_shape phase = codes "m-6 -6l12 12m0 -12l-12 12"
 
+-- the mark at the end of a worker's lane, by the transition by which it was gone
 abbrev pub going_mark : ℕ → ℕ → Option Transition → List ℕ
 going_mark last p None = []
 going_mark last p (Some s) = stroke_at (codes "i") 2 (narrow_lane p) (at last s.number) (going_shape s.after)
 
+-- the lifeline of worker p, to the move by which it was gone
 unfoldable pub lifeline : ℕ → ℕ → Option Transition → List ℕ
 lifeline last p gone =
     stroke_start (codes "b") 2 ++ codes "M" ++ decimal (narrow_lane p) ++ codes " 72V" ++ decimal (end_of last 0 gone) ++ codes "\"/>\n"
@@ -46,9 +48,11 @@ lifeline last p gone =
 unfoldable pub lane_number : ℕ → ℕ → ℕ → List ℕ
 lane_number p y number = text_start (worker_class p) (narrow_lane p - 12) y ++ decimal number ++ codes "</text>\n"
 
+-- the number of worker p above its lane, and below it how many jobs it has done
 unfoldable pub lane_numbers : List Event → ℕ → List ℕ
 lane_numbers history p = lane_number p 56 p ++ lane_number p 1052 (count_by (is_done_of p) history)
 
+-- the title of the group of worker p
 unfoldable pub worker_title : ℕ → List ℕ
 worker_title p = codes "<g><title>worker " ++ decimal p ++ codes "</title>\n"
 
@@ -85,6 +89,7 @@ jobs_head version n =
 abbrev pub columns_of : PlanSeen → ℕ
 columns_of p = max p.givens.jobs 1
 
+-- the width of a picture of jobs
 abbrev pub jobs_width : PlanSeen → ℕ
 jobs_width p = 880 + 36 * max p.givens.workers 2
 

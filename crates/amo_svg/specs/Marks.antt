@@ -18,6 +18,7 @@ use Rattle.amo_trace.specs.Trace.{next_word, done_word, equals}
 abbrev pub mark_of_load : ℕ → Want → ℕ → Mark
 mark_of_load j want v = if v == 0 then Zero want else (if v == j then Own want v else Other want v)
 
+-- the mark of a load or store by a worker with the job j
 abbrev pub mark_of_want : ℕ → Want → ℕ → Mark
 mark_of_want j (StoreNext i) v = Announcement i
 mark_of_want j (LoadNext q) v = mark_of_load j (LoadNext q) v
@@ -26,6 +27,7 @@ mark_of_want j (StoreClaim c i) v = Claim i
 mark_of_want j (StoreDone k i) v = Filing i
 mark_of_want j Nothing v = Still
 
+-- the mark of an act by a worker with the job j
 abbrev pub mark_of_act : ℕ → Act → Mark
 mark_of_act j (Turned want v) = mark_of_want j want v
 mark_of_act j Leaves = Leave
@@ -57,6 +59,7 @@ abbrev pub sees_more : Want → List ℕ
 sees_more (LoadDone q k) = codes " done"
 sees_more want = []
 
+-- the words of a load that gives v
 abbrev pub sees : Want → ℕ → List ℕ
 sees want v = codes "sees " ++ decimal v ++ sees_more want
 
@@ -112,6 +115,7 @@ loaded_of (LoadNext q) = q
 loaded_of (LoadDone q k) = q
 loaded_of want = 0
 
+-- the place of the word that is loaded
 abbrev pub seen_at : Want → ℕ
 seen_at (LoadNext q) = lane q - 12
 seen_at (LoadDone q k) = lane q
@@ -125,6 +129,7 @@ level_to x = codes "H" ++ decimal x ++ codes "m0 -5v10\"/>\n"
 abbrev pub line_start : ℕ → Want → List ℕ → ℕ
 line_start p want label = if nat_lt (loaded_of want) p then lane p else lane p + 14 + 8 * length label
 
+-- the end of a load's line: its beginning, and its way to the loaded word
 abbrev pub line_to : ℕ → ℕ → Want → List ℕ → List ℕ
 line_to p y want label = at_place (line_start p want label) y ++ level_to (seen_at want)
 

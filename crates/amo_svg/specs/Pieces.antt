@@ -46,9 +46,11 @@ piece_end Failures last p rest = codes "v3"
 piece_end Shares last p rest = mark_end (next_filing p rest)
 piece_end kind last p rest = codes "h10"
 
+-- the piece of a path for this transition, with the transitions to come
 unfoldable pub piece : Kind → ℕ → ℕ → ℕ → Transition → List Transition → List ℕ
 piece kind n last p s rest = at_place (piece_x kind n p s) (piece_y kind last p s) ++ piece_end kind last p rest
 
+-- the piece of a path, if this kind of path draws the transition
 abbrev pub piece_in : Kind → ℕ → ℕ → ℕ → Transition → List Transition → List ℕ
 piece_in kind n last p s rest = if is_drawn kind p s then piece kind n last p s rest else []
 

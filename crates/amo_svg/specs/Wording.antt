@@ -25,5 +25,6 @@ fixed_text FreeTitle = codes "<g><title>unclaimed</title>\n"
 abbrev pub rows_key : List Wording
 rows_key = LanesKey ∷ BarsKey ∷ HandsKey ∷ LinesKey ∷ CrossesKey ∷ []
 
+-- the lines on the marks in a picture of jobs
 abbrev pub jobs_key : List Wording
 jobs_key = ColumnsKey ∷ NarrowLanesKey ∷ BandKey ∷ []

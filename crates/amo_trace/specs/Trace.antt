@@ -22,6 +22,7 @@ use Rattle.amo_trace.specs.Transitions.{fact_of, transitions_of}
 unfoldable pub next_word : ℕ → List ℕ
 next_word p = codes "next[" ++ decimal p ++ codes "]"
 
+-- the name of worker p's count of claims
 unfoldable pub claim_word : ℕ → List ℕ
 claim_word p = codes "claim[" ++ decimal p ++ codes "]"
 

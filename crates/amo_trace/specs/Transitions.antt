@@ -95,6 +95,7 @@ fact_of_want (StoreClaim c j) v = Claimed j
 fact_of_want (StoreDone k j) v = Done j
 fact_of_want want v = Plain
 
+-- the further effect of an act if the attempt hasn't failed
 abbrev pub fact_of_act : Act → Fact
 fact_of_act (Turned want v) = fact_of_want want v
 fact_of_act act = Plain

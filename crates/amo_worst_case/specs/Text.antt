@@ -23,6 +23,7 @@ listed (n ∷ ns) = decimal n ++ flat_map after_comma ns
 unfoldable pub say_lines : List ℕ → List ℕ → List ℕ
 say_lines name text = codes "\n[[job]]\nname = " ++ (string_text name ++ (codes "\nsay = " ++ (string_text text ++ codes "\n")))
 
+-- the lines of a job that adds numbers
 unfoldable pub add_lines : List ℕ → List ℕ → List ℕ
 add_lines name numbers = codes "\n[[job]]\nadd = [" ++ (listed numbers ++ (codes "]\nname = " ++ (string_text name ++ codes "\n")))
 
