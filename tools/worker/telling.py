@@ -165,9 +165,9 @@ KEEP = "leave the file as it is, and read docs/JOBS.md, `A journal is refused`"
 OTHER_ROUND = ("folder `THE RUN`: the current round cannot be joined; start again when all of its"
                " workers have ended")
 HELP = "; see amo_worker --help"
-# Changes of a run whose four lines are done, in doubt, untouched and open. Each row has a change, the
-# arguments of a command, with `_` for a blank, its status, and its message. Three dots in a message
-# stand for the system's own text.
+# Changes of a run whose four lines are done, in doubt, untouched and open. Each row has a change,
+# the arguments of a command, with `_` for a blank, its status, and its message. Three dots in a
+# message stand for the system's own text.
 FAULTS = [
     (instead(lambda scene: os.symlink("old", scene.run)), "status", DOOR, NO_FOLDER),
     (instead(lambda scene: open(scene.run, "w").close()), "work 1", DOOR, NO_FOLDER),

@@ -3,6 +3,10 @@
 //!
 //! Start at `amo_next`, and at `examples/c/amo.h`, the header for C. No call keeps anything. The
 //! module `laws` has the theorems.
+//!
+//! | here | in the glossary |
+//! |---|---|
+//! | p | a worker |
 #![tactic(auto)]
 
 mod codes;

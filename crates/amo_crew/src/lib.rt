@@ -5,6 +5,11 @@
 //! accounting. The [`Outcome`] has a place for each job: done with its answer, in doubt, or free.
 //! The outputs come through the queue of `amo_mailbox`. Only `execute` may wait. The module `laws`
 //! has the theorems for your own clauses.
+//!
+//! | here | in the glossary |
+//! |---|---|
+//! | p | a worker |
+//! | j | a job |
 #![tactic(auto)]
 
 mod executing;

@@ -6,6 +6,11 @@
 //! and `items_of` returns a whole batch of accesses. The modules `laws` and `batch_laws` have the
 //! theorems. The registers must be sequentially consistent, and at most one process of a worker may
 //! live at a time. No contract can state either.
+//!
+//! | here | in the glossary |
+//! |---|---|
+//! | p, q | a worker, another worker |
+//! | j | a job |
 #![tactic(auto)]
 
 mod access;

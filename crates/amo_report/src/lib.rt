@@ -2,6 +2,10 @@
 //!
 //! Start at [`replay`], which leads from the bytes of a plan to those of its report, over any
 //! source and sink of `amo_io`. The other functions return one text each.
+//!
+//! | here | in the glossary |
+//! |---|---|
+//! | p | a worker |
 #![tactic(auto)]
 
 mod checking;

@@ -2,6 +2,11 @@
 //!
 //! Start at [`JobSet`]. The folder `specs` has the words on numbered lists, sets of numbers, counts
 //! and ranks that the contracts of all crates above use.
+//!
+//! | here | in the glossary |
+//! |---|---|
+//! | n | the number of jobs that a set covers |
+//! | j | a job |
 #![tactic(auto)]
 
 mod job_set;

@@ -2,6 +2,11 @@
 //!
 //! Start at [`World`]. Its history is a run of the sequential object, the set of unclaimed jobs.
 //! [`judge`] decides the same for the history of any system.
+//!
+//! | here | in the glossary |
+//! |---|---|
+//! | p | a worker |
+//! | j | a job |
 #![tactic(auto)]
 
 mod answer;
