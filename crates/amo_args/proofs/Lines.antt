@@ -34,7 +34,8 @@ pub subcommand_found : (m : ArgMatches) (name : Text) (rows : List Row)
     → Some name ≡ subcommand_name_of m → Some rows ≡ option_map (λ (p : Text × List Row). p.1) (subcommand_rows_of m) → subcommand_rows_of m ≡ Some (name, rows)
 subcommand_found m name rows e f = pair_of_parts (subcommand_rows_of m) name rows (e ∙ sym (name_of_rows m)) f
 
--- ---- from a command whose app is ours to what is said of ours; by `ap`, since `fault_of` is too large to rewrite in
+-- ---- from a command whose app is ours to what is said of ours; by `ap`, since `fault_of` is too
+-- large to rewrite in
 
 pub no_faults : (a : App) (line : List Text) → a ≡ amo_app → (is_simple_and_free a ≡ true → fault_of a line ≡ []) → fault_of amo_app line ≡ []
 no_faults a line e h = ap (λ (b : App). fault_of b line) (sym e) ∙ h (ap is_simple_and_free e ∙ amo_is_free)

@@ -75,8 +75,8 @@ abbrev pub unless_any : {A B : Type 0} → List A → Option B → Option B
 unless_any [] answer = answer
 unless_any (fault ∷ more) answer = None
 
--- what the words of a command line ask for, the program's name among them: the subcommand that `clap` finds,
--- unless it refuses the words
+-- what the words of a command line ask for, the program's name among them: the subcommand that
+-- `clap` finds, unless it refuses the words
 unfoldable pub request_of_line : List Text → Option Request
 request_of_line line = unless_any (fault_of amo_app line) (option_and_then (λ row. request_of_row row.0 row.1) (subcommand_of amo_app line))
 

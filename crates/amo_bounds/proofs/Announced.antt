@@ -1,4 +1,5 @@
--- An announcement that is stored or read: it makes one worker fail at most, and no more than were to.
+-- An announcement that is stored or read: it makes one worker fail at most, and no more than were
+-- to.
 use Rattle.std.proofs.Common.{◌≡◌, ◌≢◌, ◌⊎◌, inl, inr, ⊎_elim, ℕ, ◌-◌, ◌<◌, ◌≤◌, true, false, [], refl, sym, ap, ◌∙◌, subst, arith}
 use Rattle.std.proofs.lemmas.Bool.{cases_eq, cases_lt, true≢false, false_from_ne_true}
 use Rattle.amo_sets.specs.Sets.{has}

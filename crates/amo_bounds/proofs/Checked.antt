@@ -1,4 +1,5 @@
--- A check that passes brings its worker nearer; one that doesn't was to fail, and fewer fails are left.
+-- A check that passes brings its worker nearer; one that doesn't was to fail, and fewer fails are
+-- left.
 use Rattle.std.proofs.Common.{◌≡◌, ◌≢◌, ◌⊎◌, inl, inr, ⊎_elim, ℕ, ◌+◌, ◌*◌, ◌≤◌, Bool, true, false, not, ◌&&◌, [], length, refl, sym, ap, ◌∙◌, subst, arith}
 use Rattle.std.specs.Prelude.{if◌then◌else◌, nat_lt}
 use Rattle.std.proofs.lemmas.Bool.{true≢false, ltb-false}

@@ -24,7 +24,8 @@ use Rattle.amo_bounds.proofs.TurnCases.{turn_cases as cases}
 abbrev pub IsStep : Givens → (ℕ → Process) → (ℕ → Process) → Type 0
 IsStep g a b = ((q : ℕ) → b q ≡ a q) ⊎ ((p : ℕ) × IsTurnOf g a b p)
 
--- Lawful workers at each moment, the same again after a while, where from each moment to the next at most one takes a turn.
+-- Lawful workers at each moment, the same again after a while, where from each moment to the next
+-- at most one takes a turn.
 pub record Circle (g : Givens) : Type 0 where
   pub at : ℕ → ℕ → Process
   pub law : (t : ℕ) → AreLawful g (at t)

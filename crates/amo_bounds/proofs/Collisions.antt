@@ -1,5 +1,5 @@
--- In a circle nobody announces, and so nobody takes a turn: whoever announces a job was turned away from it by another that
--- announces it too.
+-- In a circle nobody announces, and so nobody takes a turn: whoever announces a job was turned away
+-- from it by another that announces it too.
 use Rattle.std.proofs.Common.{◌≡◌, ◌⊎◌, inl, inr, ⊎_elim, ℕ, zero, suc, ◌+◌, ◌-◌, ◌<◌, ◌≤◌, true, false, refl, sym, ap, ◌∙◌, subst, arith}
 use Rattle.std.proofs.lemmas.Bool.{cases_eq, true≢false, false_from_ne_true}
 use Rattle.amo_sets.specs.Sets.{has}

@@ -17,7 +17,8 @@ use Rattle.amo_kk.specs.declared.model.Record.{Record}
 use Rattle.amo_kk.proofs.Choice.{open_parts, chosen_is}
 use Rattle.amo_bounds.specs.Turns.{width}
 
--- job v is at home with p, where these jobs are free: its place among them is one that p may choose that knows all of it
+-- job v is at home with p, where these jobs are free: its place among them is one that p may choose
+-- that knows all of it
 pub record IsHome (g : Givens) (free : ℕ → Bool) (p v : ℕ) : Type 0 where
   pub job : IsJob g v
   pub free_is : free v ≡ true

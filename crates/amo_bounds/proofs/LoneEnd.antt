@@ -1,4 +1,5 @@
--- How soon worker 1 ends beside others that are stuck: each turn leaves fewer, of 2 m + 1 for each of the fewest jobs.
+-- How soon worker 1 ends beside others that are stuck: each turn leaves fewer, of 2 m + 1 for each
+-- of the fewest jobs.
 use Rattle.std.proofs.Common.{◌≡◌, ℕ, zero, suc, ◌+◌, ◌-◌, ◌*◌, ◌<◌, ◌≤◌, Bool, true, false, ◌∷◌, ◌++◌, [], length, refl, sym, ap, ◌∙◌, subst, arith}
 use Rattle.std.proofs.lemmas.Bool.{true≢false}
 use Rattle.std.proofs.lemmas.List.{length_push}

@@ -1,4 +1,5 @@
--- A number that falls with each turn that is taken, where many jobs are free or the threshold is high.
+-- A number that falls with each turn that is taken, where many jobs are free or the threshold is
+-- high.
 use Rattle.std.proofs.Common.{◌≡◌, ◌≢◌, ◌⊎◌, inl, inr, ⊎_elim, ℕ, ◌+◌, ◌-◌, ◌*◌, ◌<◌, ◌≤◌, Bool, true, false, length, sym, ap, ◌∙◌, subst, arith}
 use Rattle.std.proofs.lemmas.Bool.{cases_eq}
 use Rattle.amo_sets.specs.Lists.{numbered}
@@ -40,7 +41,8 @@ HasRead g at p r q = (o : ℕ) → IsOther g p o → o < q → length (at o).loc
 abbrev pub Passes : Givens → (ℕ → Bool) → ℕ → Record → ℕ → Type 0
 Passes g free p r j = IsHome g free p j × (has r.tried j ≡ false)
 
--- before the next done, p is to fail, or to announce a job that isn't at home, no more than k times in all
+-- before the next done, p is to fail, or to announce a job that isn't at home, no more than k times
+-- in all
 abbrev pub GradeIn : Givens → (ℕ → Process) → (ℕ → Bool) → ℕ → Record → ℕ → Phase → Type 0
 GradeIn g at free p r k (Announcing j) = IsHome g free p j ⊎ (2 ≤ k)
 GradeIn g at free p r k (Trying j q) = Passes g free p r j ⊎ (1 ≤ k)
@@ -87,7 +89,8 @@ fails g at h = total g.workers h.grades + total g.workers h.charges
 abbrev pub weight : (g : Givens) (at : ℕ → Process) → HasPotential g at → ℕ
 weight g at h = 2 * g.workers * fails g at h + price g * count g.jobs h.free + total g.workers (λ p. cost g p (at p).local)
 
--- the next potential, where worker p changes, does no job, and the fails of p and of the announcement of q change
+-- the next potential, where worker p changes, does no job, and the fails of p and of the
+-- announcement of q change
 pub record Rebuilds (g : Givens) (at now : ℕ → Process) (h : HasPotential g at) (p q k c : ℕ) : Type 0 where
   pub worker : IsWorker g p
   pub charger : IsWorker g q

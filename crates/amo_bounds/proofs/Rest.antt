@@ -1,4 +1,5 @@
--- Everyone comes to rest: of all lists of moves none has more turns that are taken than there are codes of worlds.
+-- Everyone comes to rest: of all lists of moves none has more turns that are taken than there are
+-- codes of worlds.
 use Rattle.std.proofs.Common.{◌≡◌, ⊎_elim, ℕ, suc, ◌+◌, ◌<◌, ◌≤◌, Bool, true, false, not, List, [], ◌∷◌, ◌++◌, length, refl, sym, ◌∙◌, subst, arith}
 use Rattle.std.specs.Prelude.{if◌then◌else◌, ◌==◌}
 use Rattle.std.proofs.lemmas.Bool.{true≢false, false_from_ne_true, or_cases, eqb-true}

@@ -1,4 +1,5 @@
--- Nobody who takes a turn comes back: no moves that begin with a turn lead to a world that is the same, counts of steps and history apart.
+-- Nobody who takes a turn comes back: no moves that begin with a turn lead to a world that is the
+-- same, counts of steps and history apart.
 use Rattle.std.proofs.Common.{◌≡◌, inl, inr, ℕ, zero, suc, ◌+◌, Bool, true, false, List, [], ◌∷◌, length, refl, sym, ap, ◌∙◌, arith}
 use Rattle.std.specs.Prelude.{if◌then◌else◌, ◌==◌}
 use Rattle.std.proofs.lemmas.Bool.{true≢false, eqb-true, eq-eqb}

@@ -1,4 +1,5 @@
--- Worlds without counts of steps and histories: what a move leaves depends on nothing else, and lawful worlds stay so.
+-- Worlds without counts of steps and histories: what a move leaves depends on nothing else, and
+-- lawful worlds stay so.
 use Rattle.std.proofs.Common.{◌≡◌, ◌≢◌, false, inl, inr, ⊎_elim, ℕ, ◌+◌, Bool, true, List, [], ◌∷◌, ◌++◌, refl, sym, ap, ◌∙◌, subst}
 use Rattle.std.specs.Prelude.{if◌then◌else◌, ◌==◌, nat_lt, nat_le}
 use Rattle.std.proofs.lemmas.Bool.{cases_eq, eq-eqb, ne_eqb}

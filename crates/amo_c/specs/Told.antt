@@ -28,7 +28,8 @@ value_of (Load word) = 0
 value_of (Store word value) = value
 value_of Nothing = 0
 
--- the reply for a worker in this phase that makes this access, with no job in its hand and none claimed
+-- the reply for a worker in this phase that makes this access, with no job in its hand and none
+-- claimed
 abbrev pub told_of : Access → PhaseCode → AmoNext
 told_of a phase =
     record {
@@ -42,8 +43,8 @@ told_of a phase =
       dones = 0;
     }
 
--- the reply for a worker in this standing: its next access, the job to be performed, the job in doubt, and how many jobs it
--- has claimed and recorded as done
+-- the reply for a worker in this standing: its next access, the job to be performed, the job in
+-- doubt, and how many jobs it has claimed and recorded as done
 abbrev pub next_of : Worker → Standing → AmoNext
 next_of w (Beginning word) = told_of (Load word) IsBeginning
 next_of w (Going l fresh) =

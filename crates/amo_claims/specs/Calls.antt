@@ -1,5 +1,5 @@
--- The results of a worker's calls. Each call passes on the worker's table, its handle and the handle's knowledge, changed
--- by one step or not at all.
+-- The results of a worker's calls. Each call passes on the worker's table, its handle and the
+-- handle's knowledge, changed by one step or not at all.
 use Rattle.std.specs.Prelude.{◌≡◌, ℕ, ◌+◌, ◌-◌, ◌^◌, min, true, [], ◌∷◌, ◌++◌, if◌then◌else◌}
 use Rattle.amo_kk.specs.Record.{is_over, wants_nothing, jobs_in_hand}
 use Rattle.amo_kk.specs.Step.{shown}
@@ -57,7 +57,8 @@ pub record HasGone {P : Type 0} (b w : Seated P) : Type 0 where
   pub same : IsSame b w
   pub left : HasLeft b.view (machine b) w.view
 
--- In plain words: from b to w the worker has the same table, givens, payloads and number, and took one step.
+-- In plain words: from b to w the worker has the same table, givens, payloads and number, and took
+-- one step.
 pub record IsOneStepOn {P : Type 0} (b w : Seated P) : Type 0 where
   pub table : w.table_id ≡ b.table_id
   pub givens : w.view.givens ≡ b.view.givens

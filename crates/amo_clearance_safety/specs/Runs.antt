@@ -66,8 +66,8 @@ MayHandOver NoClearance n w p = HoldsAndHasSeen w p (λ q. ⊥)
 abbrev pub IsOf : Attempt → Handing → Type 0
 IsOf a h = (h.worker ≡ a.worker) × (h.serial ≡ a.serial)
 
--- The attempt is over, and did nothing. Its intent is kept. Nobody is about to hand it over. Nothing
--- of it is left or under way, and it has not performed its line.
+-- The attempt is over, and did nothing. Its intent is kept. Nobody is about to hand it over.
+-- Nothing of it is left or under way, and it has not performed its line.
 pub record IsOver (w : Site) (a : Attempt) : Type 0 where
   pub kept : (line : ℕ) × (line_of (w.kept a.worker) a.serial ≡ Some line)
   pub not_held : (line : ℕ) (seen : List ℕ) → w.stage a.worker ≡ Clearing a.serial line seen → ⊥

@@ -21,7 +21,8 @@ change before after failed = record { before = before; after = after; failed = f
 abbrev pub IsKept : Change → Type 0
 IsKept s = Keeps s.before s.after
 
--- A line was given to a writer: a beginning of it was written, and all of it unless the writer has failed.
+-- A line was given to a writer: a beginning of it was written, and all of it unless the writer has
+-- failed.
 pub record Says (s : Change) (line : List ℕ) : Type 0 where
   pub beginning : AppendsFront s.before s.after line
   pub whole : s.failed ≡ false → Appends s.before s.after line

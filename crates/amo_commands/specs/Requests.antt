@@ -39,7 +39,8 @@ abbrev pub left_for : Request → ReplayFault → Left
 left_for (Write text) fault = Refuses (text_of text) fault
 left_for Run fault = RefusesRun fault
 
--- what a request writes if some thread could not be started: the text of what came of the others; texts start none
+-- what a request writes if some thread could not be started: the text of what came of the others;
+-- texts start none
 abbrev pub others_for : Request → Left
 others_for (Write text) known old new = ⊥
 others_for Run known old new = WritesRun NotAll known old new

@@ -1,4 +1,5 @@
--- The outcome of a run fits its givens: the lists and ends are those of all workers, and only jobs are named.
+-- The outcome of a run fits its givens: the lists and ends are those of all workers, and only jobs
+-- are named.
 use Rattle.std.proofs.Common.{◌≡◌, ℕ, zero, suc, ◌-◌, Bool, true, false, cond, eqb, ◌||◌, List, [], ◌∷◌, length, map, get_or, All, Vec, Global, Option, Some, refl, sym, ap, ◌∙◌, subst, arith}
 use Rattle.std.specs.Prelude.{slice_get, ◌==◌}
 use Rattle.std.proofs.lemmas.Bool.{true≢false, eq-eqb}

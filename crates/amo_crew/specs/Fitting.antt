@@ -9,7 +9,8 @@ use Rattle.amo_crew.specs.declared.outcome.Outcome.{Outcome}
 abbrev pub HaveJobs : Givens → List (Vec ℕ Global) → Type 0
 HaveJobs g lists = All (λ (v : Vec ℕ Global). All (IsJob g) v.items) lists
 
--- The outcome has lists and ends for each worker, and whatever its lists and its outputs name is a job.
+-- The outcome has lists and ends for each worker, and whatever its lists and its outputs name is a
+-- job.
 pub record FitsGivens {P Out : Type 0} (g : Givens) (o : Outcome P Out) : Type 0 where
   pub claims : length o.settlement.claims.items ≡ g.workers
   pub dones : length o.settlement.dones.items ≡ g.workers

@@ -53,7 +53,8 @@ pub record AreCalledOff {P Out : Type 0} (queue : Queue Out) (table : TableId) (
 abbrev pub AtTable : {P Out : Type 0} → TableId → Member P Out → Type 0
 AtTable table m = (worker_in m.after).table_id ≡ table
 
--- No thread was started, and nobody has claimed a job: the floor was closed when its book had seen these moves.
+-- No thread was started, and nobody has claimed a job: the floor was closed when its book had seen
+-- these moves.
 pub record HasNotBegun {P Out : Type 0} (g : Givens) (payloads : List P) (u : UnsettledView P Out) : Type 0 where
   pub seen : List Move
   pub closed : HasClosed g payloads seen u.floor.spots u.floor
@@ -62,7 +63,8 @@ pub record HasNotBegun {P Out : Type 0} (g : Givens) (payloads : List P) (u : Un
   pub outputs : u.outputs ≡ []
   pub in_hand : u.in_hand ≡ []
 
--- the refusal of a run in which no thread was started: all payloads come back, or the final accounting can be done later
+-- the refusal of a run in which no thread was started: all payloads come back, or the final
+-- accounting can be done later
 abbrev pub IsCalledOff : {P Out : Type 0} → Givens → List P → ExecFault P Out → Type 0
 IsCalledOff g payloads (WrongCount v) = ⊥
 IsCalledOff g payloads (NoMemory v) = (v.items ≡ payloads) × (length payloads ≡ g.jobs)

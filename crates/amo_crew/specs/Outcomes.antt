@@ -35,7 +35,8 @@ hand_in spot = []
 abbrev pub IsBare : Spot → Type 0
 IsBare s = (dones_in s ≡ []) × (hand_in s ≡ [])
 
--- A worker whose thread ran came back: it is over, with steps within its budget, or its steps are its budget.
+-- A worker whose thread ran came back: it is over, with steps within its budget, or its steps are
+-- its budget.
 abbrev pub EndsAs : ℕ → Spot → End → Type 0
 EndsAs budget s (Ended n) = (l : LocalView) × (s ≡ Back l) × EndsSo budget l.state (Ended n)
 EndsAs budget s (Halted n) = (l : LocalView) × (s ≡ Back l) × EndsSo budget l.state (Halted n)
@@ -60,8 +61,8 @@ pub record AreInHand {P : Type 0} (payloads : List P) (spots : List Spot) (i : �
 abbrev pub jobs_of : {Out : Type 0} → List (Output Out) → List ℕ
 jobs_of outputs = map (λ x. x.job) outputs
 
--- The outputs of each worker are of its dones, in their order; there are no others; each answer is related to its job
--- and to the job's payload.
+-- The outputs of each worker are of its dones, in their order; there are no others; each answer is
+-- related to its job and to the job's payload.
 pub record AreOutputs {P Out : Type 0} (related : ℕ → ℕ → P → Out → Type 0) (payloads : List P) (spots : List Spot) (outputs : List (Output Out)) : Type 0 where
   pub jobs : (p : ℕ) → jobs_of (of p outputs) ≡ dones_in (spot_of spots p)
   pub answers : All (IsRelated related payloads) outputs
@@ -72,7 +73,8 @@ pub record HaveRun {P Out : Type 0} (related : ℕ → ℕ → P → Out → Typ
   pub outputs_are : AreOutputs related payloads spots outputs
   pub hands_are : AreInHand payloads spots g.workers in_hand
 
--- The outcome of a run: the final accounting is whole, and ends, outputs and jobs in hand are those of its records.
+-- The outcome of a run: the final accounting is whole, and ends, outputs and jobs in hand are those
+-- of its records.
 pub record IsOutcome {P Out : Type 0} (related : ℕ → ℕ → P → Out → Type 0) (g : Givens) (payloads : List P) (budgets : List ℕ) (o : Outcome P Out) : Type 0 where
   pub seen : List Move
   pub spots : List Spot

@@ -29,8 +29,8 @@ pub record IsFresh {P : Type 0} (w : Seated P) : Type 0 where
 abbrev pub IsRelated : {P Out : Type 0} → (ℕ → ℕ → P → Out → Type 0) → List P → Output Out → Type 0
 IsRelated {P} related payloads x = (y : P) × (slice_get payloads (x.job - 1) ≡ Some y) × related x.worker x.job y x.out
 
--- The worker p of this table, with these givens and payloads, has taken at most `budget` steps. Its outlet was given
--- exactly the answers of its done jobs, in order.
+-- The worker p of this table, with these givens and payloads, has taken at most `budget` steps. Its
+-- outlet was given exactly the answers of its done jobs, in order.
 pub record HasFiled {P Out : Type 0} (related : ℕ → ℕ → P → Out → Type 0) (queue : Queue Out) (table : TableId) (g : Givens) (payloads : List P) (p budget : ℕ) (w : Seated P) (o : Outlet Out) : Type 0 where
   pub table_is : w.table_id ≡ table
   pub givens : w.view.givens ≡ g
@@ -43,7 +43,8 @@ pub record HasFiled {P Out : Type 0} (related : ℕ → ℕ → P → Out → Ty
   pub jobs : map (λ x. x.job) (given o) ≡ (machine w).state.dones
   pub answers : All (IsRelated related payloads) (given o)
 
--- the end of a worker with this record: it is over within its budget, or its budget is used up and it still wants a step
+-- the end of a worker with this record: it is over within its budget, or its budget is used up and
+-- it still wants a step
 abbrev pub EndsSo : ℕ → Record → End → Type 0
 EndsSo budget r (Ended s) = (is_over r.phase ≡ true) × (r.steps ≡ s) × (s ≤ budget)
 EndsSo budget r (Halted s) = (wants_nothing r.phase ≡ false) × (r.steps ≡ s) × (s ≡ budget)

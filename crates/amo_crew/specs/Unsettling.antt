@@ -22,7 +22,8 @@ pub record IsUnsettled {P Out : Type 0} (related : ℕ → ℕ → P → Out →
   pub closed : HasClosed g payloads seen u.floor.spots u.floor
   pub run : HaveRun related g payloads budgets u.floor.spots u.ends u.outputs u.in_hand
 
--- The outcome has the settlement that is read from the closed floor, whole for its book, and what was held.
+-- The outcome has the settlement that is read from the closed floor, whole for its book, and what
+-- was held.
 pub record IsSettledOf {P Out : Type 0} (u : UnsettledView P Out) (o : Outcome P Out) : Type 0 where
   pub read : IsReadFrom u.floor o.settlement
   pub whole : IsWholeOf u.floor o.settlement

@@ -6,7 +6,8 @@ use Rattle.amo_driver.specs.declared.answer.Reply.{Reply}
 use Rattle.amo_driver.specs.declared.answer.Way.{Way}
 use Rattle.amo_driver.specs.declared.past.Intent.{Intent}
 
--- Each but the last five says what is due. A first number is the serial number of the intent, or of the next one.
+-- Each but the last five says what is due. A first number is the serial number of the intent, or of
+-- the next one.
 pub data Stage : Type 0 where
   -- the access that the process wants; if it is to leave, it is to file the job in its hand
   Going : ℕ → ProcessView → Way → Stage

@@ -22,14 +22,16 @@ serial_of (Running n way) = Some n
 serial_of Garbled = None
 serial_of Closed = None
 
--- The stage of a process that has ended so: its worker wants nothing more, it has left, or nothing more can come in answer.
+-- The stage of a process that has ended so: its worker wants nothing more, it has left, or nothing
+-- more can come in answer.
 abbrev pub EndsAt : (Stage → Type 0) → LifeEnd → Type 0
 EndsAt stands Over = (s : ℕ) × (a : ProcessView) × (way : Way) × stands (Going s a way)
     × (access_of a.givens a.number a.standing ≡ Nothing) × (is_refused a.standing ≡ false)
 EndsAt stands Left = stands Gone
 EndsAt stands (Cut s) = stands (Unanswered s Closed)
 
--- The stage of a process that has halted so: nothing is due at it, unless no serial number is left. Memory and turns are no reason here.
+-- The stage of a process that has halted so: nothing is due at it, unless no serial number is left.
+-- Memory and turns are no reason here.
 abbrev pub HaltsAt : (Stage → Type 0) → Stop → Type 0
 HaltsAt stands Failed = stands Broken
 HaltsAt stands NoMemory = ⊥
@@ -39,14 +41,15 @@ HaltsAt stands (OtherAnswer s n) = (reply : Reply) × stands (Unanswered s reply
 HaltsAt stands NoSerial = (a : ProcessView) × (j : ℕ) × stands (Intending (2 ^ 64 - 1) a j)
 HaltsAt stands TooLong = ⊥
 
--- The stage of a process that was first at `first` and has stopped so. Out of memory, it has done nothing. After too many turns, it has
--- done a deed in each. Else it has halted.
+-- The stage of a process that was first at `first` and has stopped so. Out of memory, it has done
+-- nothing. After too many turns, it has done a deed in each. Else it has halted.
 abbrev pub StopsAt : (first : Stage) → (stands : Stage → Type 0) → (before after : ℕ → Type 0) → Stop → Type 0
 StopsAt first stands before after NoMemory = stands first
 StopsAt first stands before after TooLong = (s : ℕ) × (a : ProcessView) × (way : Way) × stands (Going s a way) × DoesMore (2 ^ 64 - 1) before after
 StopsAt first stands before after stop = HaltsAt stands stop
 
--- The stage after the asking has ended so: all were asked for, it is to leave, or nothing more can come in answer.
+-- The stage after the asking has ended so: all were asked for, it is to leave, or nothing more can
+-- come in answer.
 abbrev pub AsksTo : (Stage → Type 0) → Asked → Type 0
 AsksTo stands All = stands (Asking [])
 AsksTo stands DismissedBy = (rest : List Intent) × stands (Dismissed rest)

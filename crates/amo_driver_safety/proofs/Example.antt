@@ -1,5 +1,6 @@
--- There are histories: two workers and two jobs; a process dies while its partner performs a job, and the next one of its
--- worker in a store that comes about. In another one a job is found taken, and filed, and the other job is performed.
+-- There are histories: two workers and two jobs; a process dies while its partner performs a job,
+-- and the next one of its worker in a store that comes about. In another one a job is found taken,
+-- and filed, and the other job is performed.
 use Rattle.std.proofs.Common.{◌≡◌, true, false, refl, arith, List, [], ◌∷◌, ◌++◌}
 use Rattle.amo_givens.specs.Givens.{IsWorker}
 use Rattle.amo_givens.specs.Limits.{within_limits}

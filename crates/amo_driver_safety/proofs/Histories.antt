@@ -29,7 +29,8 @@ use Rattle.amo_driver_safety.specs.declared.model.Moment.{Moment}
 use Rattle.amo_driver_safety.specs.declared.model.Moment.TheVariants.{Does, Loses, Begins}
 use Rattle.amo_driver_safety.proofs.Stages.{Shown, tried_load, tried_store, load_only, store_only, hears_more, number_is, standing_is, access_is, told_shown, found_shown, intended_shown, cleared_shown, performed_shown, noted_shown, asked_for_shown}
 
--- what is tried at this stage, and comes about, as a happening: an access is a step, and the store by which it leaves a leaving
+-- what is tried at this stage, and comes about, as a happening: an access is a step, and the store
+-- by which it leaves a leaving
 abbrev pub happening : ℕ → Stage → Try → List Happening
 happening p (Going s a way) (Load w) = Steps p ∷ []
 happening p (Going s a way) (Store w v) = Steps p ∷ []

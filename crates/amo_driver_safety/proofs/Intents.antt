@@ -48,8 +48,8 @@ still_spent p s (Noted n c) none h = noted_spent s n c h
 still_spent p s (Asked n line reply) none h = asked_for_spent s n line reply h
 still_spent p s (Fell t) none h = refl
 
--- The process that stands here tries no intent before its next access, and neither asks for a clearance nor tries a performance
--- but by this one, if there is one.
+-- The process that stands here tries no intent before its next access, and neither asks for a
+-- clearance nor tries a performance but by this one, if there is one.
 abbrev pub IsOver : Option ℕ → Stage → Type 0
 IsOver o (Intending n a j) = ⊥
 IsOver o (Clearing n a j) = o ≡ Some n
@@ -236,7 +236,8 @@ module _ (g : Givens) (hs : List Happening) (w : AreOfWorkers g hs) (sc : Scene)
       (λ q d it e same. subst (λ x. IsOver None (stage_after (stage_at sc q) x)) (ap deed_in (sym is ∙ it)) (spent_over None (stage_after (stage_at sc q) (Cleared n j false)) (after_taking (stage_at sc q) n j e)))
       j may (ap tried_in is) (λ q o e. here_asks g q (numbered [] (shared_of g hs).lists q) (stage_at sc q) n j (shows.shown q o) e)
 
--- what a later moment of a history may do of a job whose intent was tried, or that was handed over, or found taken
+-- what a later moment of a history may do of a job whose intent was tried, or that was handed over,
+-- or found taken
 
 module _ (g : Givens) (before mid : List Moment) (x y : Moment) (h : IsHistory g (before ++ x ∷ mid ++ y ∷ [])) where
   abbrev then_scene : Scene

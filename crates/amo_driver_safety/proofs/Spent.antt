@@ -15,7 +15,8 @@ use Rattle.amo_driver.specs.Stage.{Stage, Finding, Intending, Clearing, Performi
 use Rattle.amo_driver.specs.Course.{try_of, due, stage_replied, stage_asking, stage_asked, stage_after}
 use Rattle.amo_driver_safety.proofs.Stages.{after_reply, after_settling, after_question, process_of, Shown, performing_only, intending_at, clearing_at, standing_is}
 
--- The job in its hand, if there is one, was handed to the partner already: no performance is to come before the next access.
+-- The job in its hand, if there is one, was handed to the partner already: no performance is to
+-- come before the next access.
 abbrev pub is_spent : Stage → Bool
 is_spent (Intending s a j) = false
 is_spent (Clearing s a j) = false

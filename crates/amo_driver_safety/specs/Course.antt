@@ -23,7 +23,8 @@ use Rattle.amo_driver.specs.Stage.{Stage, Going, Clearing, Performing}
 use Rattle.amo_driver.specs.Course.{try_of, stage_after_all}
 use Rattle.amo_driver_safety.specs.Scene.{handed_by_try}
 
--- the jobs that these deeds have handed to the partner, whether it has answered or the call has failed, in their order
+-- the jobs that these deeds have handed to the partner, whether it has answered or the call has
+-- failed, in their order
 abbrev pub handed_by_deeds : List Deed → List ℕ
 handed_by_deeds ds = flat_map (λ (d : Deed). handed_by_try (try_of d)) ds
 
@@ -46,8 +47,9 @@ pub record HasJustClaimed (g : Givens) (p : ℕ) (first : Stage) (deeds : List D
   pub after : process ≡ process_after before 0
   pub job : told_by process.standing ≡ j
 
--- The last of these deeds is intent n of job j, put into the journal, and the one right before it is the store by which
--- worker p claims j. After them the question whether j may be handed over is due.
+-- The last of these deeds is intent n of job j, put into the journal, and the one right before it
+-- is the store by which worker p claims j. After them the question whether j may be handed over is
+-- due.
 pub record HasJustIntended (g : Givens) (p : ℕ) (first : Stage) (deeds : List Deed) (n j : ℕ) (process : ProcessView) : Type 0 where
   pub earlier : List Deed
   pub is : deeds ≡ earlier ++ Intended n j ∷ []
@@ -70,8 +72,8 @@ pub record HasJustAnswered (deeds : List Deed) (n : ℕ) (answer : JobResult) : 
   pub way : Way
   pub is : deeds ≡ earlier ++ Performed n job (Answered n answer way) ∷ []
 
--- The last of these deeds says that the job of intent n is taken, and the one right before it is that intent. The answer is
--- that the job was not begun.
+-- The last of these deeds says that the job of intent n is taken, and the one right before it is
+-- that intent. The answer is that the job was not begun.
 pub record HasJustFoundTaken (deeds : List Deed) (n : ℕ) (answer : JobResult) : Type 0 where
   pub earlier : List Deed
   pub job : ℕ
@@ -87,7 +89,8 @@ tells_to_leave (Running n Leave) = true
 tells_to_leave Garbled = false
 tells_to_leave Closed = false
 
--- the note of what came in answer to intent n, as a list of one try or none: while its job runs nothing is noted
+-- the note of what came in answer to intent n, as a list of one try or none: while its job runs
+-- nothing is noted
 abbrev pub note_of : ℕ → Reply → List Try
 note_of n (Answered m answer way) = Note n answer ∷ []
 note_of n (Running m way) = []

@@ -8,7 +8,8 @@ use Rattle.amo_driver.specs.Course.{stage_after_all, AreDue, first_stage}
 use Rattle.amo_driver_safety.specs.declared.model.Moment.{Moment}
 use Rattle.amo_driver_safety.specs.declared.model.Moment.TheVariants.{Does, Loses, Begins}
 
--- The process that was at the stage `first` has since done these, each of which was due, and is at this stage.
+-- The process that was at the stage `first` has since done these, each of which was due, and is at
+-- this stage.
 abbrev pub Stands : (first : Stage) → List Deed → Stage → Type 0
 Stands first ds s = AreDue first ds × (stage_after_all first ds ≡ s)
 

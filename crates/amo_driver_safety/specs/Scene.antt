@@ -68,7 +68,8 @@ abbrev pub handed_by_try : Try → List ℕ
 handed_by_try (Perform s j) = j ∷ []
 handed_by_try t = []
 
--- the job that was handed to a partner: whether it has answered, the call has failed, or the process has died in it
+-- the job that was handed to a partner: whether it has answered, the call has failed, or the
+-- process has died in it
 abbrev pub handed_by : Moment → List ℕ
 handed_by (Does p d) = handed_by_try (try_of d)
 handed_by (Loses p t) = handed_by_try t

@@ -49,8 +49,8 @@ paid_in line = map (λ p. (p.account, p.cents)) (payments_in 1 line)
 abbrev pub first_crew : Crew
 first_crew = record { workers = 1; steps = MAX_STEPS }
 
--- The lines say this day: its crew and its limit are the last that are said, and its payments are those that are said, in their
--- order, numbered from 1.
+-- The lines say this day: its crew and its limit are the last that are said, and its payments are
+-- those that are said, in their order, numbered from 1.
 pub record IsDay (said : List Line) (day : Day) : Type 0 where
   pub crew : day.crew ≡ fold crew_after first_crew said
   pub limit : day.limit ≡ fold limit_after (2 ^ 64 - 1) said

@@ -46,8 +46,8 @@ abbrev pub fault_of_reading : LedgerFault → Fault
 fault_of_reading NoMemoryToRead = Memory
 fault_of_reading (Refused number) = Entry number
 
--- In the file of a journal the append of this number says no entries. Or the entry of this number may
--- not follow those before it, of a day of so many payments.
+-- In the file of a journal the append of this number says no entries. Or the entry of this number
+-- may not follow those before it, of a day of so many payments.
 abbrev pub IsRefusedIn : ℕ → List ℕ → ℕ → Type 0
 IsRefusedIn lines file number = SaysNothing append_in (records_in file) (Refused number)
     ⊎ ((entries : List LedgerEntry) × (entries_of file ≡ Some entries) × IsRefused lines entries (Refused number))

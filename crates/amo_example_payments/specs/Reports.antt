@@ -75,7 +75,8 @@ ArePaid crew payments rest free text = AreFloors (IsRound crew) (λ s. s.free.it
 abbrev pub AreTried : List Payment → List Payment → List Payment → List ℕ → Type 0
 AreTried payments rest free text = AreFloors (IsLeftover Answers) (λ r. r.free.items) leftover_text payments rest free text
 
--- Some floors took payments off this list, and what they gave back was added to that one: their text was written.
+-- Some floors took payments off this list, and what they gave back was added to that one: their
+-- text was written.
 abbrev pub TellsNext : (List Payment → List Payment → List Payment → List ℕ → Type 0) → List Payment → List Payment → List Payment → List Payment → Option (List ℕ) → Option (List ℕ) → Type 0
 TellsNext Are payments rest free more old new = (added : List Payment) × (text : List ℕ) × (more ≡ free ++ added) × Are payments rest added text × Appends old new text
 
@@ -99,7 +100,8 @@ pub record IsReport (day : Day) (journal : List Attempt) (waiting late : List Pa
       ++ (lines_of (codes "doubt") (filter (is_in_doubt journal) day.payments.items)
       ++ (rounds_text ++ (floors_text ++ lines_of (codes "free") left)))
 
--- In the text stands the line of this word and this number: before it the text is empty, or a line has ended.
+-- In the text stands the line of this word and this number: before it the text is empty, or a line
+-- has ended.
 pub record HasLine (text word : List ℕ) (id : ℕ) : Type 0 where
   pub before : List ℕ
   pub after : List ℕ

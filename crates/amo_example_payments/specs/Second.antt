@@ -12,8 +12,8 @@ use Rattle.amo_example_payments.specs.declared.second.Leftover.{Leftover}
 use Rattle.amo_example_payments.specs.declared.second.LeftoverFault.{LeftoverFault}
 use Rattle.amo_example_payments.specs.declared.second.LeftoverFault.TheVariants.{Untried, Unhired, Unsettled}
 
--- Each answer is that of its job's payload, no job has two, and the others come back, each with its own payload, in the order of
--- their numbers. None is in doubt.
+-- Each answer is that of its job's payload, no job has two, and the others come back, each with its
+-- own payload, in the order of their numbers. None is in doubt.
 pub record IsLeftover {P Out : Type 0} (related : ℕ → ℕ → P → Out → Type 0) (payloads : List P) (r : Leftover P Out) : Type 0 where
   pub answers : All (IsRelated related payloads) r.outputs.items
   pub distinct : AreDistinct (jobs_of r.outputs.items)

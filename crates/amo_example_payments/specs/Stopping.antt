@@ -7,7 +7,8 @@ use Rattle.amo_claims.specs.declared.states.After.TheVariants.{More, Over}
 use Rattle.amo_mailbox.specs.declared.output.Output.{Output}
 use Rattle.amo_crew.specs.Running.{IsRelated}
 
--- The worker b, now w, has filed just the jobs of these outputs, in their order, and each answer is that of its job's payload.
+-- The worker b, now w, has filed just the jobs of these outputs, in their order, and each answer is
+-- that of its job's payload.
 pub record HasPaid {P Out : Type 0} (related : ℕ → ℕ → P → Out → Type 0) (b w : Seated P) (outputs : List (Output Out)) : Type 0 where
   pub table : w.table_id ≡ b.table_id
   pub givens : w.view.givens ≡ b.view.givens

@@ -5,7 +5,8 @@ use Rattle.std.specs.Str.{bytes_eq}
 use Rattle.amo_fs.specs.Parts.{lines_of, fields_of, first_by}
 use Rattle.amo_fs.specs.declared.mount.Mount.{Mount}
 
--- a mount: its file system's device, its options, its file system's type and its file system's options
+-- a mount: its file system's device, its options, its file system's type and its file system's
+-- options
 pub record MountView : Type 0 where
   pub device : List ℕ
   pub options : List ℕ
@@ -25,8 +26,8 @@ abbrev pub behind_dash : List (List ℕ) → List (List ℕ)
 behind_dash [] = []
 behind_dash (field ∷ fields) = if bytes_eq field (codes "-") then fields else behind_dash fields
 
--- the mount of this device and these options, whose type and whose file system's options are the first
--- and the third of three fields
+-- the mount of this device and these options, whose type and whose file system's options are the
+-- first and the third of three fields
 abbrev pub mount_by : List ℕ → List ℕ → List (List ℕ) → Option MountView
 mount_by device options last = if length last == 3 then Some (view device options (slice_index_or last 0 []) (slice_index_or last 2 [])) else None
 
@@ -50,10 +51,10 @@ first_mount id lines = first_by (mount_at id) lines
 abbrev pub mount_of_id : List ℕ → List ℕ → Option MountView
 mount_of_id text id = first_mount id (lines_of text)
 
--- The line describes this mount under this id. One blank stands between each two of its fields. The first
--- six are the id, the parent's id, the device, the root, the mount point and the mount's options. Then
--- come further fields, none of which is a lone dash, and a lone dash. The last three are the type of the
--- file system, its source and its options.
+-- The line describes this mount under this id. One blank stands between each two of its fields. The
+-- first six are the id, the parent's id, the device, the root, the mount point and the mount's
+-- options. Then come further fields, none of which is a lone dash, and a lone dash. The last three
+-- are the type of the file system, its source and its options.
 pub record Describes (line id : List ℕ) (m : MountView) : Type 0 where
   pub parent : List ℕ
   pub root : List ℕ

@@ -22,7 +22,8 @@ givens_of jobs workers beta = numbers_or_fault jobs workers beta (first_fault jo
 abbrev pub bound : Givens → ℕ
 bound g = g.jobs - (g.beta + g.workers - 2)
 
--- a worker alone claims a job or ends within so many turns: six for each worker, and one for each job
+-- a worker alone claims a job or ends within so many turns: six for each worker, and one for each
+-- job
 abbrev pub lone_bound : Givens → ℕ
 lone_bound g = 6 * g.workers + g.jobs
 

@@ -1,4 +1,5 @@
--- How a process begins a round: under the lock of the round, which it has alone, it reads all that there is, and makes the round's files.
+-- How a process begins a round: under the lock of the round, which it has alone, it reads all that
+-- there is, and makes the round's files.
 use Rattle.std.specs.Prelude.{◌≡◌, ◌⊎◌, ℕ, ◌+◌, ◌-◌, ◌^◌, ◌==◌, List, [], ◌∷◌, ◌++◌, length, replicate, take, Option, Some, None, if◌then◌else◌}
 use Rattle.amo_givens.specs.declared.limits.TheConstants.{MAX_JOBS}
 use Rattle.amo_run_files.specs.declared.extent.Extent.{Extent}
@@ -18,7 +19,8 @@ use Rattle.amo_host.specs.Calls.{Request, Unlock, ReadBoot, ReadRound, ReadJobs,
 use Rattle.amo_host.specs.Logs.{Logs, all_logs, logs_before}
 use Rattle.amo_host.specs.Phase.{Identity, Begin, LockedAlone, BootedAlone, HasLast, KnowsJobs, ListHasGrown, KnowsAll, RoundMade, RegistersMade, ToBegin, Phase, Idle, Begins, Reads, Ended}
 
--- The number of the round after the last one, rounds being counted from 1. The highest number stays as it is.
+-- The number of the round after the last one, rounds being counted from 1. The highest number stays
+-- as it is.
 abbrev pub round_after : Option RoundFile → ℕ
 round_after None = 1
 round_after (Some last) = if last.header.round == 2 ^ 64 - 1 then last.header.round else last.header.round + 1

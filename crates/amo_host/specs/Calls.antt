@@ -7,7 +7,8 @@ use Rattle.amo_host.specs.declared.model.Hold.{Hold}
 use Rattle.amo_host.specs.declared.model.LogFile.{LogFile}
 use Rattle.amo_host.specs.declared.model.RunLock.{RunLock}
 
--- A call as it is made, before anything has come of it. A process that is killed in a call has made a request.
+-- A call as it is made, before anything has come of it. A process that is killed in a call has made
+-- a request.
 pub data Request : Type 0 where
   -- To try a lock once.
   TryLock : RunLock → Hold → Request

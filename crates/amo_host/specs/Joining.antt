@@ -1,4 +1,5 @@
--- How a process joins a round: under the lock of the round, which it shares, it reads the round's file and opens its registers.
+-- How a process joins a round: under the lock of the round, which it shares, it reads the round's
+-- file and opens its registers.
 use Rattle.std.specs.Prelude.{◌≡◌, ◌⊎◌, ℕ, ◌==◌, ◌&&◌, Bool, true, false, List, [], length, Option, Some, None, Result, Ok, Err}
 use Rattle.std.specs.Str.{bytes_eq}
 use Rattle.amo_givens.specs.declared.givens.Givens.{Givens}
@@ -20,7 +21,8 @@ abbrev pub has_head : (front : List ℕ) → (head : Option (List ℕ)) → Bool
 has_head front None = false
 has_head front (Some head) = bytes_eq front head
 
--- Whether registers are those of this round, by how many bytes their file has, and by the first ones.
+-- Whether registers are those of this round, by how many bytes their file has, and by the first
+-- ones.
 abbrev pub are_of : RoundHeader → Option (ℕ × List ℕ) → Bool
 are_of header None = false
 are_of header (Some file) = (file.0 == words_len header.givens) && has_head file.1 (head_of (said_by header))
@@ -35,7 +37,8 @@ abbrev pub has_header : Identity → Option Logs → (boot : List ℕ) → Optio
 has_header me prior boot None = Ended
 has_header me prior boot (Some file) = has_header_if me prior file (bytes_eq file.header.boot.items boot)
 
--- The phase after the registers of this round were opened, by its seat and its givens, and by whether the registers are that round's.
+-- The phase after the registers of this round were opened, by its seat and its givens, and by
+-- whether the registers are that round's.
 abbrev pub seated : Identity → Option Logs → RoundFile → (seat : Option ℕ) → Result Givens GivensFault → (fits : Bool) → Phase
 seated me prior file (Some seat) (Ok givens) true = Joins me (Seated prior file givens seat)
 seated me prior file (Some seat) (Ok givens) false = Ended
@@ -47,7 +50,8 @@ abbrev pub seated_in : Identity → Option Logs → RoundFile → RoundHeader �
 seated_in me prior file h registers =
     seated me prior file (seat_of me.worker h.first h.workers h.givens.workers) (givens_of h.givens.jobs h.givens.workers h.givens.beta) (are_of h registers)
 
--- The phase after a call. A process that unlocks the round takes no part in it. It is then in the phase that follows its part.
+-- The phase after a call. A process that unlocks the round takes no part in it. It is then in the
+-- phase that follows its part.
 abbrev pub joins_on : Identity → Join → Call → Phase
 joins_on me (Locked prior) (BootIs boot) = Joins me (Booted prior boot)
 joins_on me (Booted prior boot) (RoundIs last) = has_header me prior boot last
@@ -57,8 +61,8 @@ joins_on me (HasJobs prior file) (RegistersAre front registers) = seated_in me p
 joins_on me (Seated prior file givens seat) FolderIsSynced = Reads me (ToWork file givens seat) (logs_before (length me.lines) prior) [] all_logs
 joins_on me join c = Ended
 
--- The calls that each step allows. Once it has read the round's file, a process may unlock the round and take no part in it. No line depends
--- on that.
+-- The calls that each step allows. Once it has read the round's file, a process may unlock the
+-- round and take no part in it. No line depends on that.
 abbrev pub MayJoin : Join → Request → Type 0
 MayJoin (Locked prior) r = r ≡ ReadBoot
 MayJoin (Booted prior boot) r = r ≡ ReadRound

@@ -7,8 +7,8 @@ use Rattle.amo_run_log.specs.ReadLogs.{findings_after, journals_after}
 use Rattle.amo_host.specs.declared.model.LogFile.{LogFile}
 use Rattle.amo_host.specs.declared.model.LogFile.TheVariants.{Answers, Journal}
 
--- The resolutions of operators, and the attempts of each journal, those of the workers 1, 2 and so on. The journals are of a run of so
--- many lines.
+-- The resolutions of operators, and the attempts of each journal, those of the workers 1, 2 and so
+-- on. The journals are of a run of so many lines.
 pub record Logs : Type 0 where
   pub count : ℕ
   pub findings : List Finding
@@ -24,7 +24,8 @@ abbrev pub journals_from : (worker count : ℕ) → List LogFile
 journals_from worker zero = []
 journals_from worker (suc n) = Journal worker ∷ journals_from (worker + 1) n
 
--- All logs of a run, in the order in which they are read: the answers first, so that none of them is to an attempt that isn't read.
+-- All logs of a run, in the order in which they are read: the answers first, so that none of them
+-- is to an attempt that isn't read.
 abbrev pub all_logs : List LogFile
 all_logs = Answers ∷ journals_from 1 MAX_WORKERS
 
@@ -33,7 +34,8 @@ abbrev pub others : List LogFile → List LogFile
 others [] = []
 others (f ∷ left) = left
 
--- The logs before a round is joined: those that were read in earlier rounds, in a run that knows so many lines by now.
+-- The logs before a round is joined: those that were read in earlier rounds, in a run that knows so
+-- many lines by now.
 abbrev pub logs_before : (count : ℕ) → Option Logs → Logs
 logs_before count None = record { count = count; findings = []; journals = replicate MAX_WORKERS [] }
 logs_before count (Some logs) = record logs { count = max logs.count count }

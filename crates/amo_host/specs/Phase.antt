@@ -13,7 +13,8 @@ pub record Identity : Type 0 where
   pub worker : ℕ
   pub lines : List (List ℕ)
 
--- The steps by which it takes its number. The file of a round is that of the last one, if there is one.
+-- The steps by which it takes its number. The file of a round is that of the last one, if there is
+-- one.
 pub data Start : Type 0 where
   -- It has called nothing.
   Unborn : Start
@@ -28,8 +29,8 @@ pub data Start : Type 0 where
   -- Since then it has synced the folder.
   Settled : Option RoundFile → (texts : List (List ℕ)) → Start
 
--- The steps by which it joins a round, all of them under the lock of the round, which it shares. `prior` are the logs that it has read in
--- earlier rounds, if there were any.
+-- The steps by which it joins a round, all of them under the lock of the round, which it shares.
+-- `prior` are the logs that it has read in earlier rounds, if there were any.
 pub data Join : Type 0 where
   Locked : (prior : Option Logs) → Join
   -- It has read the boot id.
@@ -41,8 +42,9 @@ pub data Join : Type 0 where
   -- It has opened the registers, which are that round's, and has this seat in the round.
   Seated : (prior : Option Logs) → RoundFile → Givens → (seat : ℕ) → Join
 
--- The steps by which it begins a round, all of them under the lock of the round, which it has alone. `prior` are the logs that it has read in
--- earlier rounds. `last` is the file of the last round. `counts` is how much of each log is on the disk for good.
+-- The steps by which it begins a round, all of them under the lock of the round, which it has
+-- alone. `prior` are the logs that it has read in earlier rounds. `last` is the file of the last
+-- round. `counts` is how much of each log is on the disk for good.
 pub data Begin : Type 0 where
   LockedAlone : (prior : Option Logs) → Begin
   -- It has read the boot id.

@@ -1,4 +1,5 @@
--- The protocol of a run: the calls that each phase of a process allows, and the phase after each call.
+-- The protocol of a run: the calls that each phase of a process allows, and the phase after each
+-- call.
 use Rattle.std.specs.Prelude.{◌≡◌, ◌⊎◌, ℕ, zero, suc, Bool, true, false, List, [], ◌∷◌, Option, Some, None, slice_get}
 use Rattle.amo_givens.specs.declared.limits.TheConstants.{MAX_WORKERS}
 use Rattle.amo_process.specs.Stepped.{ProcessView}
@@ -50,7 +51,8 @@ outcome_at time (Untouched code) = UntouchedAt code time
 abbrev pub outcome_entry : (serial time : ℕ) → JobResult → Entry
 outcome_entry serial time result = Answered serial (outcome_at time result)
 
--- In a round, this request carries out what is tried. An attempt is at the line of its job, and the runner gets the text of that line.
+-- In a round, this request carries out what is tried. An attempt is at the line of its job, and the
+-- runner gets the text of that line.
 abbrev pub CarriesOut : Identity → (jobs : List ℕ) → Try → Request → Type 0
 CarriesOut me jobs (Load w) r = r ≡ LoadRegister w
 CarriesOut me jobs (Store w v) r = r ≡ StoreRegister w v
@@ -61,7 +63,8 @@ CarriesOut me jobs (Perform s j) r = (line : ℕ) × (text : List ℕ) × (line_
 CarriesOut me jobs (Note s c) r = (time : ℕ) × (r ≡ Owe (outcome_entry s time c))
 CarriesOut me jobs (Ask s line) r = ⊥
 
--- Before a round, while it asks what became of earlier attempts, this request carries out what is tried. An outcome is recorded at once.
+-- Before a round, while it asks what became of earlier attempts, this request carries out what is
+-- tried. An outcome is recorded at once.
 abbrev pub CarriesOutBefore : Identity → Try → Request → Type 0
 CarriesOutBefore me (Note s c) r = (time : ℕ) × (r ≡ Put (outcome_entry s time c))
 CarriesOutBefore me (Ask s line) r = (text : List ℕ) × (line_of me.lines line ≡ Some text) × (r ≡ Say (was_text s line text))
@@ -89,7 +92,8 @@ abbrev pub job_is_clear : Identity → (serial : ℕ) → (line : Option ℕ) �
 job_is_clear me serial None logs = false
 job_is_clear me serial (Some line) logs = is_clear logs.findings logs.journals (record { worker = me.worker; serial = serial }) line
 
--- The phase after more was read: it reads on what is left, and then it knows whether the line is clear.
+-- The phase after more was read: it reads on what is left, and then it knows whether the line is
+-- clear.
 abbrev pub reads_on : Identity → (jobs : List ℕ) → (serial : ℕ) → ProcessView → (job : ℕ) → Option Logs → (left : List LogFile) → Phase
 reads_on me jobs s a j None left = Unclear s
 reads_on me jobs s a j (Some logs) (f ∷ left) = Clears me jobs s a j logs (f ∷ left)
@@ -133,8 +137,8 @@ clears_on me jobs s a j logs left (HasRead f texts) = reads_on me jobs s a j (lo
 clears_on me jobs s a j logs left (Fell (ReadOn f)) = Unclear s
 clears_on me jobs s a j logs left c = Ended
 
--- The phase after a process has tried the lock of the round. It was in the phase `from`, and in no round. It joins a round if it shares the
--- lock, and begins one if it has the lock alone.
+-- The phase after a process has tried the lock of the round. It was in the phase `from`, and in no
+-- round. It joins a round if it shares the lock, and begins one if it has the lock alone.
 abbrev pub locked_if : (from : Phase) → Identity → Option Logs → Hold → Bool → Phase
 locked_if from me prior Shared true = Joins me (Locked prior)
 locked_if from me prior Exclusive true = Begins me (LockedAlone prior)
@@ -191,11 +195,13 @@ phase_after Ended c = Ended
 abbrev pub MayTryRound : Request → Type 0
 MayTryRound r = (hold : Hold) × (r ≡ TryLock Round hold)
 
--- Before a round it may carry out what is due. Once it has asked for all earlier attempts, it may try the lock of the round.
+-- Before a round it may carry out what is due. Once it has asked for all earlier attempts, it may
+-- try the lock of the round.
 abbrev pub MayAsk : Identity → Stage → Request → Type 0
 MayAsk me st r = ((t : Try) × (due st ≡ Some t) × CarriesOutBefore me t r) ⊎ ((st ≡ Asking []) × MayTryRound r)
 
--- In a round it may carry out what is due. If nothing is, it may append what it owes, and then unlock the round.
+-- In a round it may carry out what is due. If nothing is, it may append what it owes, and then
+-- unlock the round.
 abbrev pub MayWork : Identity → (jobs : List ℕ) → Stage → (owes : Bool) → Request → Type 0
 MayWork me jobs st owes r =
     ((t : Try) × (due st ≡ Some t) × CarriesOut me jobs t r) ⊎ ((due st ≡ None) × ((r ≡ Pay) ⊎ ((owes ≡ false) × (r ≡ Unlock Round))))
@@ -242,6 +248,7 @@ abbrev pub phase_after_all : Phase → List Call → Phase
 phase_after_all ph [] = ph
 phase_after_all ph (c ∷ cs) = phase_after_all (phase_after ph c) cs
 
--- A process that was in the phase `first` has since made these calls, each of which was allowed, and is in this phase.
+-- A process that was in the phase `first` has since made these calls, each of which was allowed,
+-- and is in this phase.
 abbrev pub Stands : (first : Phase) → List Call → Phase → Type 0
 Stands first cs ph = AreAllowed first cs × (phase_after_all first cs ≡ ph)

@@ -16,13 +16,14 @@ abbrev pub last_for : Purpose → Option RoundFile
 last_for (ToWork file givens seat) = Some file
 last_for (ToBegin boot last known list) = last
 
--- Before the logs are read to begin a round, the list must only have grown, and none of its lines may be refused. If there was a round, a last
--- line without its end is left out.
+-- Before the logs are read to begin a round, the list must only have grown, and none of its lines
+-- may be refused. If there was a round, a last line without its end is left out.
 abbrev pub MayReadFor : Purpose → Type 0
 MayReadFor (ToWork file givens seat) = ⊤
 MayReadFor (ToBegin boot last known list) = BeginsWith known list × IsTaken list (is_some last)
 
--- The step after all that is needed to begin a round was read, by whether the list has more lines than the run knows.
+-- The step after all that is needed to begin a round was read, by whether the list has more lines
+-- than the run knows.
 abbrev pub has_all : (more : Bool) → (boot : List ℕ) → Option RoundFile → Logs → (counts : List Extent) → Begin
 has_all true boot last logs counts = ListHasGrown boot last logs counts
 has_all false boot last logs counts = KnowsAll boot last logs counts

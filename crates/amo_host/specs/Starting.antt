@@ -1,4 +1,5 @@
--- How a process takes its number: the lock on its journal first, and the journal is recovered under it.
+-- How a process takes its number: the lock on its journal first, and the journal is recovered under
+-- it.
 use Rattle.std.specs.Prelude.{◌≡◌, ℕ, Bool, true, false, List, length, map, Option, Some, None}
 use Rattle.amo_driver.specs.declared.past.Intent.{Intent}
 use Rattle.amo_driver.specs.Stage.{Asking}
@@ -17,8 +18,8 @@ intent_of i = record { serial = i.0; line = i.1 }
 abbrev pub pending_of : List Attempt → List Intent
 pending_of attempts = map intent_of (pending_from 1 attempts)
 
--- The phase after it knows the lines of its run, and so what the appends of its journal say: it asks for what is pending. If they can't
--- follow each other, the journal is refused.
+-- The phase after it knows the lines of its run, and so what the appends of its journal say: it
+-- asks for what is pending. If they can't follow each other, the journal is refused.
 abbrev pub asks_first : (worker : ℕ) → (lines : List (List ℕ)) → Option (List Attempt) → Phase
 asks_first worker lines None = Ended
 asks_first worker lines (Some attempts) = Asks (record { worker = worker; lines = lines }) (Asking (pending_of attempts))

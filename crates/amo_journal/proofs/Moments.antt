@@ -4,7 +4,8 @@ use Rattle.amo_journal.specs.Device.{Elapses, LeavesOnly, Only}
 use Rattle.amo_journal.specs.Journal.{IsNear, IsUnsure, MayRecover}
 use Rattle.amo_journal.specs.Texts.{texts_in, blocks}
 
--- each crash during the calls, and each read after them, has these texts, and the journal can be settled
+-- each crash during the calls, and each read after them, has these texts, and the journal can be
+-- settled
 pub record KeepsTexts {D : Type 0} (moment : D → ℕ) (left_since : D → ℕ → List ℕ → Type 0) (seen : D → List ℕ) (may_leave : D → List ℕ → Type 0) (stale : D → ℕ → Type 0) (texts : List (List ℕ)) (old new : D) : Type 0 where
   pub any_moment : LeavesOnly moment left_since old new (λ c. texts_in c ≡ texts)
   pub read : texts_in (seen new) ≡ texts

@@ -67,8 +67,8 @@ abbrev pub IsCutOffAppend : List ℕ → Type 0
 IsCutOffAppend bytes = (length bytes ≤ longest)
     × (IsOneLine bytes ⊎ ((line : List ℕ) × (next : List ℕ) × (bytes ≡ line ++ 10 ∷ next) × IsOneLine line × IsNextByte next))
 
--- A crash may leave these bytes after the last append. There may be none, or one byte that is no open
--- commit byte. Or there is a closed commit byte, `-`, with an append that was cut off.
+-- A crash may leave these bytes after the last append. There may be none, or one byte that is no
+-- open commit byte. Or there is a closed commit byte, `-`, with an append that was cut off.
 abbrev pub IsCutOff : List ℕ → Type 0
 IsCutOff [] = Unit {0}
 IsCutOff (b ∷ []) = b ≢ 43
@@ -82,10 +82,10 @@ pub record IsLog (checksum : List ℕ) (records : List (List ℕ)) (file : List 
   pub cut_off : IsCutOff end
   pub one_line : AreOneLine records
 
--- The bytes follow an append with that checksum, and are neither an append nor an end. `CommitByte`:
--- they begin with another byte than a commit byte, and have more. `Unfinished`: an open commit byte
--- without a whole line. `Checksum`: a line with another checksum. `Surplus`: a closed commit byte,
--- and then more than a crash leaves.
+-- The bytes follow an append with that checksum, and are neither an append nor an end.
+-- `CommitByte`: they begin with another byte than a commit byte, and have more. `Unfinished`: an
+-- open commit byte without a whole line. `Checksum`: a line with another checksum. `Surplus`: a
+-- closed commit byte, and then more than a crash leaves.
 abbrev pub IsWrong : DamageKind → List ℕ → List ℕ → Type 0
 IsWrong CommitByte checksum [] = ⊥
 IsWrong CommitByte checksum (b ∷ []) = ⊥

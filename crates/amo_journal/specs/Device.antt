@@ -14,8 +14,8 @@ pub record WritesFront (old : List ℕ) (at : ℕ) (bytes new : List ℕ) : Type
   pub some : count ≤ length bytes
   pub holds : Holds old at (take count bytes) new
 
--- After a write of n bytes that a crash cuts short: the same outside of the range. Each byte is the old
--- one, the new one, or, past the old end, 0.
+-- After a write of n bytes that a crash cuts short: the same outside of the range. Each byte is the
+-- old one, the new one, or, past the old end, 0.
 pub record Torn (at n : ℕ) (read old new : List ℕ) : Type 0 where
   pub before : at ≤ length old → take at new ≡ take at old
   pub after : drop (at + n) new ≡ drop (at + n) old
@@ -56,7 +56,8 @@ Differs outcomes read i = (c : List ℕ) × outcomes c × (slice_get c i ≢ sli
 abbrev pub IsOutside : ℕ → ℕ → ℕ → Type 0
 IsOutside at n i = (i < at) ⊎ (at + n ≤ i)
 
--- Time goes on: a crash since t might have left what it might have left before, or what it may leave now.
+-- Time goes on: a crash since t might have left what it might have left before, or what it may
+-- leave now.
 pub record Elapses (before now : ℕ) (past since : ℕ → List ℕ → Type 0) (may_leave : List ℕ → Type 0) : Type 0 where
   pub later : before ≤ now
   pub nothing_else : (t : ℕ) (c : List ℕ) → t ≤ before → since t c → past t c ⊎ may_leave c

@@ -23,7 +23,8 @@ use Rattle.amo_judge.proofs.Begins.{told_unlawful}
 use Rattle.amo_judge.proofs.Found.{within_worker, hand_free, tests_fail, reason_found}
 use Rattle.amo_judge.proofs.Searches.{hand_is, performed_is}
 
--- what each reason says; of a done and of an end by its own choice it is known that they are no step
+-- what each reason says; of a done and of an end by its own choice it is known that they are no
+-- step
 abbrev pub Says : Givens → List Event → Event → Reason → Type 0
 Says g before event (NoWorker p) = (worker_of event ≡ p) × (IsWorker g p → ⊥)
 Says g before event (Gone p end i) = (worker_of event ≡ p) × (event_at before i ≡ Some end) × ((end ≡ Ended p) ⊎ ((end ≡ Halted p) ⊎ (end ≡ Left p)))

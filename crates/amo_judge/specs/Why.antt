@@ -1,4 +1,5 @@
--- Why an event is no step from the state that the events before it leave: the first test of a step that fails.
+-- Why an event is no step from the state that the events before it leave: the first test of a step
+-- that fails.
 use Rattle.std.specs.Prelude.{ℕ, ◌+◌, Bool, false, ◌==◌, if◌then◌else◌, List, [], ◌∷◌, ◌++◌, codes, length, Option, Some, None, option_map}
 use Rattle.std.specs.Fmt.{decimal}
 use Rattle.std.specs.Option.{option_or}

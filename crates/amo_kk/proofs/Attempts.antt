@@ -18,7 +18,8 @@ use Rattle.amo_kk.proofs.OwnTurns.{next_record, IsTurned, own_turn, stored, stor
 use Rattle.amo_kk.proofs.AttemptReads.{IsPaid, IsSpent, to_hear, to_read, unread_in, announcements_paid, zeros_paid, entries_spent, attempt_begun}
 use Rattle.amo_kk.proofs.Alone.{stores_few}
 
--- what attempt a may still count, where n is the number of the attempt by now, which has so much left
+-- what attempt a may still count, where n is the number of the attempt by now, which has so much
+-- left
 abbrev still : (each n a left : ℕ) → ℕ
 still each n a left = if n == a then left else (if nat_lt n a then each else 0)
 

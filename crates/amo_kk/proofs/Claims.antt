@@ -1,5 +1,5 @@
--- The consequences for each run of the object: no job is claimed twice, each performance has its claim, and an end comes
--- late enough.
+-- The consequences for each run of the object: no job is claimed twice, each performance has its
+-- claim, and an end comes late enough.
 use Rattle.std.proofs.Common.{◌≡◌, ◌≢◌, ⊎_elim, ℕ, zero, suc, ◌+◌, ◌≤◌, Bool, true, false, not, ◌&&◌, ◌||◌, List, [], ◌∷◌, ◌++◌, length, refl, sym, ap, ◌∙◌, subst, arith, append-nil, append_assoc}
 use Rattle.std.specs.Prelude.{if◌then◌else◌, nat_le, ◌==◌}
 use Rattle.std.proofs.lemmas.Bool.{cases_eq, true≢false, false_from_ne_true, and_parts, or_right, leb-true, eqb-true}

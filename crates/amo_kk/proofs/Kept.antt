@@ -71,7 +71,8 @@ announced g q p i b sound clear = go b.local.phase sound.announces clear.0
     go (Holding k) a c = a ∙ c
     go phase a c = absurd c
 
--- a worker that does not announce i has done it, or has not claimed it and is not clear of anybody on it
+-- a worker that does not announce i has done it, or has not claimed it and is not clear of anybody
+-- on it
 pub unannounced : (g : Givens) (q p i : ℕ) (b : Process) → IsSoundProcess g q b → b.next ≢ i → (has b.local.dones i ≡ true) ⊎ IsUnclaimedByOther p i b.local
 unannounced g q p i b sound other = ⊎_elim inl (λ not_done. inr (record { free = ap (λ l. has l i) sound.local.claims ∙ has-append b.local.dones (jobs_in_hand b.local.phase) i ∙ none not_done; unclear = λ c. other (announced g q p i b sound c) })) (cases_Bool (has b.local.dones i))
   where

@@ -1,4 +1,5 @@
--- Turns of a worker alone: one of the next claims or ends, and what the turn in each phase leaves to show for that.
+-- Turns of a worker alone: one of the next claims or ends, and what the turn in each phase leaves
+-- to show for that.
 use Rattle.std.proofs.Common.{◌≡◌, ◌≢◌, ◌⊎◌, inl, inr, ⊎_elim, ℕ, zero, suc, ◌+◌, ◌-◌, ◌<◌, ◌≤◌, ◌^◌, min, Bool, true, false, length, get_or, refl, sym, ap, ◌∙◌, subst, arith}
 use Rattle.std.specs.Prelude.{if◌then◌else◌, ◌==◌}
 use Rattle.std.proofs.lemmas.Bool.{cases_eq, cases_lt, true≢false, or_left, or_right, eq-eqb, ne_eqb}
@@ -24,7 +25,8 @@ use Rattle.amo_kk.proofs.Kept.{numbered_next, first_other, done_job}
 use Rattle.amo_kk.proofs.OwnTurns.{next_record, own_turn, wants_some, heard, read_of, stored, stored_within, stored_in, stored_in_want, turns_that-suc}
 use Rattle.amo_kk.proofs.RowSums.{unread, unread_less}
 
--- one of the next k turns of p claims a job or ends p, and up to it at most n announcements are stored
+-- one of the next k turns of p claims a job or ends p, and up to it at most n announcements are
+-- stored
 abbrev pub ClaimsOrEndsWithin : Givens → ℕ → ℕ → ℕ → World → Type 0
 ClaimsOrEndsWithin g p zero n w = ⊥
 ClaimsOrEndsWithin g p (suc k) n w = (stored w p ≤ n) × ((claims_or_ends g w p ≡ true) ⊎ ClaimsOrEndsWithin g p k (n - stored w p) (world_after_turn g w p))

@@ -1,4 +1,5 @@
--- The changes of a world by moves: of the worker that moves, of the others, of the counts of steps, and of who is gone.
+-- The changes of a world by moves: of the worker that moves, of the others, of the counts of steps,
+-- and of who is gone.
 use Rattle.std.proofs.Common.{◌≡◌, ◌≢◌, ⊎_elim, ℕ, zero, suc, ◌+◌, ◌<◌, ◌≤◌, Bool, true, false, List, [], ◌∷◌, ◌++◌, length, refl, sym, ap, ◌∙◌, subst, arith}
 use Rattle.std.specs.Prelude.{if◌then◌else◌}
 use Rattle.std.proofs.lemmas.Bool.{true≢false, cases_eq, cases_lt, or_parts}
@@ -69,8 +70,8 @@ pub record IsMoved (m : Move) (b a : Process) : Type 0 where
   -- unless it is stopped, it is gone just if it wants nothing
   pub gone : is_halt m ≡ false → a.gone ≡ wants_nothing a.local.phase
 
--- A move leaves the world as it is, or puts a process in place of its worker, which isn't gone. So what holds of both
--- holds of the world after it.
+-- A move leaves the world as it is, or puts a process in place of its worker, which isn't gone. So
+-- what holds of both holds of the world after it.
 pub move_cases : (g : Givens) (w : World) (m : Move) (P : World → Type 0) → P w
     → ((a : Process) (events : List Event) → (process w (worker_of m)).gone ≡ false → IsMoved m (process w (worker_of m)) a → P (world_with w (worker_of m) a events))
     → P (world_after_move g w m)

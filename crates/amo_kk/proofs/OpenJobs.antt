@@ -1,4 +1,5 @@
--- Free jobs as bits: which jobs are known, how many are open, and the choice as it is computed from bits.
+-- Free jobs as bits: which jobs are known, how many are open, and the choice as it is computed from
+-- bits.
 use Rattle.std.proofs.Common.{◌≡◌, ◌≢◌, ⊎_elim, ℕ, zero, suc, ◌+◌, ◌≤◌, ◌<◌, List, Bool, true, false, [], not, ◌&&◌, ◌||◌, replicate, length, refl, sym, ap, ◌∙◌, subst, arith}
 use Rattle.std.specs.Prelude.{if◌then◌else◌, ◌==◌}
 use Rattle.std.proofs.lemmas.Bool.{lt-ltb, le-ltb, le-leb, and_from, and_right, cases_eq, eq-eqb, ne_eqb}

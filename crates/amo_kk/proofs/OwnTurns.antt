@@ -1,4 +1,5 @@
--- The turns of one worker: what a turn in which it goes on leaves, and how many of them store an announcement.
+-- The turns of one worker: what a turn in which it goes on leaves, and how many of them store an
+-- announcement.
 use Rattle.std.proofs.Common.{◌≡◌, ◌≢◌, ℕ, zero, suc, ◌+◌, ◌-◌, ◌≤◌, Bool, false, length, refl, sym, ap, ◌∙◌, arith}
 use Rattle.std.specs.Prelude.{if◌then◌else◌}
 use Rattle.std.proofs.lemmas.Bool.{true≢false, false_from_ne_true}

@@ -1,4 +1,5 @@
--- Worked schedules, first choices, judged lists, ranks and places of words: the definitions give these values.
+-- Worked schedules, first choices, judged lists, ranks and places of words: the definitions give
+-- these values.
 use Rattle.std.proofs.Common.{◌≡◌, ℕ, List, [], ◌∷◌, ◌++◌, refl, replicate, Bool, true, false, not, ◌&&◌, length, map}
 use Rattle.std.specs.Prelude.{Some, None}
 use Rattle.amo_sets.specs.Sets.{has}
@@ -52,7 +53,8 @@ unclaimed_of g ms = (object_after_all (first_object g) (history_of g ms)).unclai
 abbrev performed_of : Givens → List Move → ℕ
 performed_of g ms = length (object_after_all (first_object g) (history_of g ms)).performed
 
--- what moves come to: their history, the unclaimed jobs, how many are performed, and how many steps workers 1 and 2 have had
+-- what moves come to: their history, the unclaimed jobs, how many are performed, and how many steps
+-- workers 1 and 2 have had
 abbrev ComesTo : Givens → List Move → List Event → List ℕ → (performed one two : ℕ) → Type 0
 ComesTo g ms history unclaimed performed one two =
     (history_of g ms ≡ history) × (unclaimed_of g ms ≡ unclaimed) × (performed_of g ms ≡ performed) × (steps_of g ms 1 ≡ one) × (steps_of g ms 2 ≡ two)
@@ -258,9 +260,9 @@ judged_done_then_left = refl
 judged_early_end : judged five_jobs (Ended 1 ∷ []) ≡ 1
 judged_early_end = refl
 
--- A worker alone, of five jobs and two workers: worker 2 has done 3 and announces 2, and worker 1, which has done 1,
--- is about to announce 2. It announces 2, reads 2, reads 3 and then 0 in the row: 2 was tried. It announces 4, reads 2
--- and 0, and claims.
+-- A worker alone, of five jobs and two workers: worker 2 has done 3 and announces 2, and worker 1,
+-- which has done 1, is about to announce 2. It announces 2, reads 2, reads 3 and then 0 in the row:
+-- 2 was tried. It announces 4, reads 2 and 0, and claims.
 
 abbrev both_on_2 : World
 both_on_2 = world_of five_jobs (turns 2 2 ++ (turns 1 3 ++ (turns 2 4 ++ turns 1 2)))

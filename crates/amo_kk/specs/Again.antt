@@ -1,4 +1,5 @@
--- A worker that begins again from its own words alone: its announcement, its count of claims, and the entries of its row.
+-- A worker that begins again from its own words alone: its announcement, its count of claims, and
+-- the entries of its row.
 use Rattle.std.specs.Prelude.{ℕ, zero, suc, ◌+◌, Bool, true, not, ◌&&◌, ◌||◌, List, [], ◌∷◌, ◌++◌, length, nat_le, ◌==◌, if◌then◌else◌}
 use Rattle.amo_sets.specs.Sets.{has, with_number}
 use Rattle.amo_givens.specs.Givens.{is_within}
@@ -28,8 +29,9 @@ abbrev pub are_new : Givens → List ℕ → List ℕ → Bool
 are_new g known [] = true
 are_new g known (j ∷ js) = (is_within g.jobs j && not (has known j)) && are_new g (with_number j known) js
 
--- whether a worker can have left these own words: the dones are jobs, each another one; the announcement is a job, or 0; and
--- as many are claimed as done, or one more, which is then the announced job and none of them
+-- whether a worker can have left these own words: the dones are jobs, each another one; the
+-- announcement is a job, or 0; and as many are claimed as done, or one more, which is then the
+-- announced job and none of them
 abbrev pub are_own_words : Givens → (next claim : ℕ) (dones : List ℕ) → Bool
 are_own_words g next claim dones =
     are_new g [] dones && (nat_le next g.jobs
@@ -39,12 +41,13 @@ are_own_words g next claim dones =
 abbrev pub record_of_dones : Givens → List ℕ → Record
 record_of_dones g dones = record (empty_record g) { known = set_of dones; claimed = dones; dones = dones }
 
--- the job that these words show as claimed and not filed, or 0: it may or may not have been performed
+-- the job that these words show as claimed and not filed, or 0: it may or may not have been
+-- performed
 abbrev pub doubt : (next claim : ℕ) (dones : List ℕ) → ℕ
 doubt next claim dones = if claim == length dones then 0 else next
 
--- The record with which worker p restarts. If its registers show a job in doubt, this job is in its hand, to be recorded as
--- done without being performed. Otherwise there is a new choice.
+-- The record with which worker p restarts. If its registers show a job in doubt, this job is in its
+-- hand, to be recorded as done without being performed. Otherwise there is a new choice.
 abbrev pub record_again : Givens → ℕ → (next claim : ℕ) (dones : List ℕ) → Record
 record_again g p next claim dones =
     if claim == length dones

@@ -64,7 +64,8 @@ abbrev pub turns_that : (ℕ → Bool) → ℕ → ℕ
 turns_that test zero = if test 0 then 1 else 0
 turns_that test (suc i) = turns_that test i + (if test (suc i) then 1 else 0)
 
--- the attempts that go on in this phase: one where its announcement is stored and its job isn't claimed yet
+-- the attempts that go on in this phase: one where its announcement is stored and its job isn't
+-- claimed yet
 abbrev pub attempts_going_on : Phase → ℕ
 attempts_going_on (Trying j q) = 1
 attempts_going_on (Reading j q) = 1
@@ -82,9 +83,9 @@ attempt_at g w p k =
 abbrev pub turns_of_attempt : Givens → World → (p a : ℕ) → (ℕ → Bool) → ℕ → ℕ
 turns_of_attempt g w p a test i = turns_that (λ k. (attempt_at g w p k == a) && test k) i
 
--- The turns 0..i of p are of at most three attempts. In each attempt at most one announcement is stored, at most as
--- many announcements are read as there are others, and at most as many zeros. A turn that is of no attempt loads
--- nothing. No entry of a row is read twice in all these turns.
+-- The turns 0..i of p are of at most three attempts. In each attempt at most one announcement is
+-- stored, at most as many announcements are read as there are others, and at most as many zeros. A
+-- turn that is of no attempt loads nothing. No entry of a row is read twice in all these turns.
 pub record FitsThreeAttempts (g : Givens) (w : World) (p i : ℕ) : Type 0 where
   pub three : attempt_at g w p i ≤ 3
   pub stores : (a : ℕ) → turns_of_attempt g w p a (λ k. stores_announcement (want_at g w p k)) i ≤ 1

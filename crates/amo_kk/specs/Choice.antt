@@ -6,7 +6,8 @@ use Rattle.amo_givens.specs.declared.givens.Givens.{Givens}
 use Rattle.amo_kk.specs.declared.phase.Phase.TheVariants.{Announcing, Claiming, Over}
 use Rattle.amo_kk.specs.declared.model.Record.{Record}
 
--- the rank that worker p chooses where so many jobs are free: the workers are spread evenly, if there is room
+-- the rank that worker p chooses where so many jobs are free: the workers are spread evenly, if
+-- there is room
 abbrev pub chosen_rank : Givens → ℕ → ℕ → ℕ
 chosen_rank g p free =
     let spread = free - (g.workers - 1) in
@@ -16,7 +17,8 @@ chosen_rank g p free =
 abbrev pub chosen_job : Givens → ℕ → Record → ℕ
 chosen_job g p r = number_of_rank g.jobs (is_open r) (chosen_rank g p (count g.jobs (is_free r)))
 
--- the record after the choice: over where fewer than beta jobs are open, else about to announce the chosen job
+-- the record after the choice: over where fewer than beta jobs are open, else about to announce the
+-- chosen job
 abbrev pub record_after_choice : Givens → ℕ → Record → Record
 record_after_choice g p r =
     if nat_lt (count g.jobs (is_open r)) g.beta

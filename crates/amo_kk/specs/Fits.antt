@@ -5,7 +5,8 @@ use Rattle.amo_givens.specs.declared.givens.Givens.{Givens}
 use Rattle.amo_kk.specs.declared.phase.Want.{Want}
 use Rattle.amo_kk.specs.declared.phase.Want.TheVariants.{StoreNext, LoadNext, LoadDone, StoreClaim, StoreDone, Nothing}
 
--- what worker p loads is of another worker, and in its row; what p stores is a job, and so many claims and dones have room
+-- what worker p loads is of another worker, and in its row; what p stores is a job, and so many
+-- claims and dones have room
 abbrev pub WantFits : Givens → ℕ → Want → Type 0
 WantFits g p (StoreNext j) = IsJob g j
 WantFits g p (LoadNext q) = IsOther g p q

@@ -15,6 +15,7 @@ pub record KnowledgeView : Type 0 where
 abbrev pub numbers_without : List Bool → List ℕ
 numbers_without bits = members (length bits) (λ k. not (numbered false bits k))
 
--- the change leads each record that knows and has tried what k does to this phase, and to these jobs tried
+-- the change leads each record that knows and has tried what k does to this phase, and to these
+-- jobs tried
 abbrev pub LeadsTo : KnowledgeView → (Record → Record) → Phase → List ℕ → Type 0
 LeadsTo k change phase tried = (r : Record) → r.known ≡ k.known → r.tried ≡ k.tried → change r ≡ record r { phase = phase; tried = tried }

@@ -86,7 +86,8 @@ pub record IsSoundTowards (p : ℕ) (r : Record) (q : ℕ) (s : Record) : Type 0
 abbrev pub IsDone : Givens → (ℕ → Process) → ℕ → Type 0
 IsDone g at j = (q : ℕ) × IsWorker g q × (has (at q).local.dones j ≡ true)
 
--- The facts about all workers, `at p` being worker p: about each alone, about each two, and that a known job is done.
+-- The facts about all workers, `at p` being worker p: about each alone, about each two, and that a
+-- known job is done.
 pub record AreLawful (g : Givens) (at : ℕ → Process) : Type 0 where
   pub sound : (p : ℕ) → IsWorker g p → IsSoundProcess g p (at p)
   pub apart : (p q : ℕ) → IsWorker g p → IsOther g p q → IsSoundTowards p (at p).local q (at q).local
@@ -124,8 +125,8 @@ object_of g w = object_after_all (first_object g) w.history
 abbrev pub HasRun : Givens → World → Type 0
 HasRun g w = IsRun g (first_object g) w.history × Agrees g (process w) (object_of g w)
 
--- The world v goes on from the world w, which agrees with the state s. The events that v adds to the history are a run from
--- s, and the state that they leave agrees with v.
+-- The world v goes on from the world w, which agrees with the state s. The events that v adds to
+-- the history are a run from s, and the state that they leave agrees with v.
 pub record GoesOn (g : Givens) (s : Object) (w v : World) : Type 0 where
   pub events : List Event
   pub history : v.history ≡ w.history ++ events

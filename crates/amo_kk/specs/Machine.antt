@@ -20,7 +20,8 @@ abbrev pub record_of : Phase → KnowledgeView → (fronts claims dones : List �
 record_of phase k fronts claims dones steps =
     record { phase = phase; known = k.known; tried = k.tried; fronts = fronts; claimed = claims; dones = dones; steps = steps }
 
--- The record is sound, its sets have the range of the jobs, and its lists have just the room that they may need.
+-- The record is sound, its sets have the range of the jobs, and its lists have just the room that
+-- they may need.
 pub record IsHeld (g : Givens) (p : ℕ) (r : Record) (range fronts_room claims_room dones_room : ℕ) : Type 0 where
   pub givens : AreGivens g
   pub worker : IsWorker g p
@@ -34,8 +35,8 @@ pub record IsHeld (g : Givens) (p : ℕ) (r : Record) (range fronts_room claims_
   pub claims_room_is : claims_room ≡ g.jobs
   pub dones_room_is : dones_room ≡ g.jobs
 
--- The beginning of a machine of worker p that restarts: it has done different jobs, has claimed and knows exactly these,
--- and has read no row. Its lists have exactly the room that they may need.
+-- The beginning of a machine of worker p that restarts: it has done different jobs, has claimed and
+-- knows exactly these, and has read no row. Its lists have exactly the room that they may need.
 pub record IsTakenUp (g : Givens) (p : ℕ) (k : KnowledgeView) (fronts claims dones : List ℕ) (fronts_room claims_room dones_room : ℕ) : Type 0 where
   pub worker : IsWorker g p
   pub new : are_new g [] dones ≡ true

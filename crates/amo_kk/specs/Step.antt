@@ -51,7 +51,8 @@ with_announced v tried = if v == 0 then tried else with_number v tried
 abbrev pub record_at_row : Givens → ℕ → ℕ → ℕ → Record → Record
 record_at_row g p j q r = if nat_le q g.workers then record r { phase = Reading j q } else record_after_check g p j r
 
--- the record about to read the announcement of q, or at the first row if there are only q - 1 workers
+-- the record about to read the announcement of q, or at the first row if there are only q - 1
+-- workers
 abbrev pub record_at_announcement : Givens → ℕ → ℕ → ℕ → Record → Record
 record_at_announcement g p j q r =
     if nat_le q g.workers then record r { phase = Trying j q } else record_at_row g p j (next_other p 0) r

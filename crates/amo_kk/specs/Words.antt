@@ -1,4 +1,5 @@
--- The shared words in one list: the book word, the announcements, the counts of claims, and the rows.
+-- The shared words in one list: the book word, the announcements, the counts of claims, and the
+-- rows.
 use Rattle.std.specs.Prelude.{ℕ, set, ◌+◌, ◌-◌, ◌*◌, List, ◌∷◌, ◌++◌, map}
 use Rattle.std.specs.List.{flat_map}
 use Rattle.amo_givens.specs.declared.givens.Givens.{Givens}
@@ -10,7 +11,8 @@ use Rattle.amo_kk.specs.declared.phase.Want.TheVariants.{StoreNext, LoadNext, Lo
 abbrev pub words_of : List Process → List ℕ
 words_of all = 0 ∷ map (λ (a : Process). a.next) all ++ (map (λ (a : Process). a.claim) all ++ flat_map (λ (a : Process). a.row) all)
 
--- how many words there are: the book word, and for each worker its announcement, its count of claims and its row
+-- how many words there are: the book word, and for each worker its announcement, its count of
+-- claims and its row
 abbrev pub word_count : Givens → ℕ
 word_count g = g.workers * (g.jobs + 3) + 1
 

@@ -42,7 +42,8 @@ loaded_value w (LoadNext q) = (process w q).next
 loaded_value w (LoadDone q k) = numbered 0 (process w q).row k
 loaded_value w want = 0
 
--- the process a after a step with this load or store, r being its record after it: it is gone if it wants nothing
+-- the process a after a step with this load or store, r being its record after it: it is gone if it
+-- wants nothing
 abbrev pub process_after : Want → Process → Record → Process
 process_after (StoreNext j) a r = record a { local = r; next = j; gone = wants_nothing r.phase }
 process_after (StoreClaim c j) a r = record a { local = r; claim = c; gone = wants_nothing r.phase }
@@ -67,7 +68,8 @@ world_after_turn g w p = if (process w p).gone then w else world_after_step g w 
 abbrev pub world_after_halt : World → ℕ → World
 world_after_halt w p = if (process w p).gone then w else world_with w p (record (process w p) { gone = true }) (Halted p ∷ [])
 
--- the world after p leaves: p stores 0 to its announcement, if it isn't gone and has nothing in its hand
+-- the world after p leaves: p stores 0 to its announcement, if it isn't gone and has nothing in its
+-- hand
 abbrev pub world_after_leave : World → ℕ → World
 world_after_leave w p =
     if (process w p).gone

@@ -4,7 +4,8 @@ use Rattle.crossbeam_queue.specs.Passes.{Pass}
 use Rattle.amo_mailbox.specs.declared.output.Output.{Output}
 use Rattle.amo_mailbox.specs.declared.pass_state.PassState.{PassState}
 
--- An outlet: its pass and worker, what it kept, how many it was given, and for how many it has room.
+-- An outlet: its pass and worker, what it kept, how many it was given, and for how many it has
+-- room.
 pub record OutletView (Out : Type 0) : Type 0 where
   pub pass : Pass (Output Out) (PassState Out)
   pub worker : ℕ

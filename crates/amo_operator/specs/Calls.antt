@@ -6,7 +6,8 @@ use Rattle.amo_status.specs.declared.state.AttemptId.{AttemptId}
 use Rattle.amo_host.specs.declared.model.LogFile.{LogFile}
 use Rattle.amo_operator.specs.declared.model.OperatorLock.{OperatorLock}
 
--- A call as it is made, before anything has come of it. A process that is killed in a call has made a request.
+-- A call as it is made, before anything has come of it. A process that is killed in a call has made
+-- a request.
 pub data Request : Type 0 where
   -- To try a lock once.
   TryLock : OperatorLock → Request

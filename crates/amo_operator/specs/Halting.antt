@@ -6,8 +6,9 @@ use Rattle.amo_operator.specs.declared.model.Command.{Command}
 use Rattle.amo_operator.specs.Phase.{Phase, Enters, Ended}
 use Rattle.amo_operator.specs.Protocol.{Lives}
 
--- The phase in which a command then is. It may call nothing any more, since a call has failed, a log can't be read, or an answer is refused. If it
--- has no lock of the answers, or an attempt may still run, it has no lock. Out of memory says nothing.
+-- The phase in which a command then is. It may call nothing any more, since a call has failed, a
+-- log can't be read, or an answer is refused. If it has no lock of the answers, or an attempt may
+-- still run, it has no lock. Out of memory says nothing.
 abbrev pub Halts : (Phase → Type 0) → Command → Halt → Type 0
 Halts stands command H.Memory = Lives stands
 Halts stands command H.Held = stands (Enters command true)

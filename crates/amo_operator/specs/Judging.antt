@@ -61,6 +61,7 @@ judged_all k quiet time j (said ∷ more) = option_and_then (λ next. judged_all
 abbrev pub none_judged : Known → Judged
 none_judged k = record { findings = k.findings; fresh = []; is_early = false; runs = false }
 
--- The answers by which lines are tried again: of each attempt that reports that it did nothing, and that no operator has answered.
+-- The answers by which lines are tried again: of each attempt that reports that it did nothing, and
+-- that no operator has answered.
 abbrev pub again_at : Known → (time : ℕ) → List Finding
 again_at k time = map (λ i. record { verdict = NotDone; worker = i.worker; serial = i.serial; time = time }) (untouched_of k.findings 1 k.journals)

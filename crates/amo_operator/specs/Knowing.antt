@@ -35,7 +35,8 @@ and_journal t texts = record t { journals = t.journals ++ texts ∷ [] }
 abbrev pub has_pending : List Attempt → Bool
 has_pending attempts = not (length (pending_from 1 attempts) == 0)
 
--- Whether a journal of these texts has a pending attempt, whatever lines the run has. None if its appends can't follow each other.
+-- Whether a journal of these texts has a pending attempt, whatever lines the run has. None if its
+-- appends can't follow each other.
 abbrev pub pends : List (List ℕ) → Option Bool
 pends texts = option_map has_pending (attempts_in (2 ^ 64 - 1) texts)
 
@@ -57,7 +58,8 @@ abbrev pub are_in_place : List (List Attempt) → (before : List Finding) → Li
 are_in_place journals before [] = true
 are_in_place journals before (f ∷ fs) = may_join journals before f && are_in_place journals (before ++ f ∷ []) fs
 
--- The run as it is known by these findings. None if they couldn't be read, or if one is out of place.
+-- The run as it is known by these findings. None if they couldn't be read, or if one is out of
+-- place.
 abbrev pub known_by : (lines : List (List ℕ)) → Texts → (records : Bool) → (journals : List (List Attempt)) → Option (List Finding) → Option Known
 known_by lines t records journals None = None
 known_by lines t records journals (Some findings) =
@@ -65,7 +67,8 @@ known_by lines t records journals (Some findings) =
     then Some (record { lines = lines; findings = findings; journals = journals; alive = t.alive; finals = []; records = records })
     else None
 
--- The run of these lines, as it is known by these texts. None if a log can't be read, or if a finding is out of place.
+-- The run of these lines, as it is known by these texts. None if a log can't be read, or if a
+-- finding is out of place.
 abbrev pub known_in : (count : ℕ) → (lines : List (List ℕ)) → Texts → (records : Bool) → Option Known
 known_in count lines t records =
     if are_readable count t.journals then known_by lines t records (journals_in count t.journals) (findings_in t.answers) else None

@@ -228,12 +228,14 @@ phase_after (Waits command) c = waits_on command c
 phase_after (Puts left) c = puts_on left c
 phase_after Ended c = Ended
 
--- The phase with which a command ends: by the number of an answer that is to an attempt that may still run, if there is one.
+-- The phase with which a command ends: by the number of an answer that is to an attempt that may
+-- still run, if there is one.
 abbrev pub ends_as : Command → (running : Option ℕ) → Phase
 ends_as command None = Puts []
 ends_as command (Some number) = Waits command
 
--- It may try the lock of the answers. If it only looks, and has tried that, it may go on without it.
+-- It may try the lock of the answers. If it only looks, and has tried that, it may go on without
+-- it.
 abbrev pub MayEnter : Command → (tried : Bool) → Request → Type 0
 MayEnter command tried r =
     (r ≡ TryLock AnswersLock) ⊎ ((only_looks command ≡ true) × (tried ≡ true) × (r ≡ CheckFolder (must_be_kept command)))
@@ -243,12 +245,14 @@ abbrev pub MayRead : Option RoundFile → (left : List ℕ) → Request → Type
 MayRead last [] r = ⊥
 MayRead last (w ∷ left) r = r ≡ ReadLog (JournalFile w) last
 
--- It may try the lock of the next journal. Once it has looked at all of them it may read the lines that the run knows.
+-- It may try the lock of the next journal. Once it has looked at all of them it may read the lines
+-- that the run knows.
 abbrev pub MayLook : Option RoundFile → (left : List ℕ) → Request → Type 0
 MayLook last [] r = r ≡ ReadJobs last
 MayLook last (w ∷ left) r = r ≡ TryLock (Journal w)
 
--- It may try the lock of the command of the next attempt. Once it has looked at all of them it may read the clock.
+-- It may try the lock of the command of the next attempt. Once it has looked at all of them it may
+-- read the clock.
 abbrev pub MayProbe : (left : List AttemptId) → Request → Type 0
 MayProbe [] r = r ≡ ReadClock
 MayProbe (i ∷ left) r = r ≡ TryLock (CommandLock i.worker i.serial)
@@ -304,6 +308,7 @@ abbrev pub phase_after_all : Phase → List Call → Phase
 phase_after_all ph [] = ph
 phase_after_all ph (c ∷ cs) = phase_after_all (phase_after ph c) cs
 
--- A process that was in the phase `first` has since made these calls, each of which was allowed, and is in this phase.
+-- A process that was in the phase `first` has since made these calls, each of which was allowed,
+-- and is in this phase.
 abbrev pub Stands : (first : Phase) → List Call → Phase → Type 0
 Stands first cs ph = AreAllowed first cs × (phase_after_all first cs ≡ ph)

@@ -60,8 +60,8 @@ claimed_line j p name = codes "job " ++ decimal j ++ codes " claimed " ++ decima
 unfoldable pub free_line : ℕ → List ℕ → List ℕ
 free_line j name = codes "job " ++ decimal j ++ codes " free " ++ name ++ codes "\n"
 
--- the first of the three that fits: somebody has done its block, or has claimed it, or neither; the job stands at this
--- place of the block
+-- the first of the three that fits: somebody has done its block, or has claimed it, or neither; the
+-- job stands at this place of the block
 abbrev pub fate_line : ℕ → ℕ → List ℕ → Option ℕ → Option Handed → Option ℕ → List ℕ
 fate_line j place name (Some p) output claimer = done_line j p name (text_in place output)
 fate_line j place name None output (Some p) = claimed_line j p name

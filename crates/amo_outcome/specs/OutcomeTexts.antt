@@ -17,7 +17,8 @@ use Rattle.amo_outcome.specs.OutcomeLines.{end_lines, job_lines}
 abbrev pub BlocksOutcome : Type 0
 BlocksOutcome = Outcome (List Task) (Vec Answer Global)
 
--- the first line, a line for each worker, a line for each job by what became of its block, and how much was performed
+-- the first line, a line for each worker, a line for each job by what became of its block, and how
+-- much was performed
 unfoldable pub run_lines : Heads → List End → List (List ℕ) → List (List ℕ) → (ℕ → Fate) → List ℕ
 run_lines h ends claims dones fates =
     first_line h.version h.block (length h.names) h.givens

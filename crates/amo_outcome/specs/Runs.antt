@@ -21,7 +21,8 @@ use Rattle.amo_io.specs.Streams.{AppendsFront}
 use Rattle.amo_outcome.specs.declared.started.Started.{Started}
 use Rattle.amo_outcome.specs.declared.started.Started.TheVariants.{All, NotAll}
 
--- the answers of a block are those of its own tasks, one for each, in their order, whoever performs it
+-- the answers of a block are those of its own tasks, one for each, in their order, whoever performs
+-- it
 abbrev pub AreAnswers : ℕ → ℕ → List Task → Vec Answer Global → Type 0
 AreAnswers worker job tasks answers = answers.items ≡ map capped_answer tasks
 
@@ -47,8 +48,8 @@ heads_of p = record {
   budgets = p.budgets;
 }
 
--- The text of something that can come of executing the blocks of this plan. Of one plan there can be more than one such
--- text, since the order in which threads take their steps is theirs.
+-- The text of something that can come of executing the blocks of this plan. Of one plan there can
+-- be more than one such text, since the order in which threads take their steps is theirs.
 pub record IsRunText (started : Started) (p : PlanSeen) (text : List ℕ) : Type 0 where
   pub outcome : Outcome (List Task) (Vec Answer Global)
   pub has_come : HasComeOf p.givens (blocks_of p.block p.tasks) p.budgets started outcome

@@ -20,7 +20,8 @@ abbrev pub unless : {A : Type 0} → Bool → PlanFault → Result A PlanFault �
 unless true e more = more
 unless false e more = Err e
 
--- An ordinal in a fault has 32 bits; no text that is short enough for a plan has as many jobs or words.
+-- An ordinal in a fault has 32 bits; no text that is short enough for a plan has as many jobs or
+-- words.
 abbrev pub capped : ℕ → ℕ
 capped i = min i 4294967295
 
@@ -33,7 +34,8 @@ each f i (x ∷ xs) = f (capped i) x >>= λ y. each f (i + 1) xs >>= λ ys. Ok (
 abbrev pub is_between : ℕ → ℕ → ℕ → Bool
 is_between low high n = nat_le low n && nat_le n high
 
--- The result of a call is that of the definition, apart from out of memory. A value, as `view` shows it, comes only if the
--- definition gives that value. A fault comes only if the definition gives that fault.
+-- The result of a call is that of the definition, apart from out of memory. A value, as `view`
+-- shows it, comes only if the definition gives that value. A fault comes only if the definition
+-- gives that fault.
 abbrev pub Gives : {X Y : Type 0} → (X → Y) → Result X PlanFault → Result Y PlanFault → Type 0
 Gives view result read = MatchResult result (λ x. read ≡ Ok (view x)) (λ e. e ≢ NoMemory → read ≡ Err e)

@@ -36,8 +36,8 @@ loads_above g p q = map (λ i. Load (next_word i)) (others_above g p q)
 abbrev pub rows_above : Givens → ℕ → List ℕ → ℕ → List Item
 rows_above g p fronts q = map (row_item g fronts) (others_above g p q)
 
--- the load or store that worker p wants, and, but for a claim and a filing, the rest of its pass: the announcements and the
--- rows that are still to be read
+-- the load or store that worker p wants, and, but for a claim and a filing, the rest of its pass:
+-- the announcements and the rows that are still to be read
 abbrev pub items_wanted : Givens → ℕ → List ℕ → Want → List Item
 items_wanted g p fronts (StoreNext j) = Store (next_word p) j ∷ loads_above g p 0 ++ rows_above g p fronts 0
 items_wanted g p fronts (LoadNext q) = Load (next_word q) ∷ loads_above g p q ++ rows_above g p fronts 0
@@ -46,8 +46,8 @@ items_wanted g p fronts (StoreClaim c j) = Store (claim_word g p) c ∷ []
 items_wanted g p fronts (StoreDone k j) = Store (done_word g p k) j ∷ []
 items_wanted g p fronts Nothing = []
 
--- the items from this access on; after a job is recorded as done they go on with the next access, since a store gives no
--- value
+-- the items from this access on; after a job is recorded as done they go on with the next access,
+-- since a store gives no value
 abbrev pub items_from : Givens → ℕ → Record → Want → List Item
 items_from g p r (StoreDone k j) =
     Store (done_word g p k) j ∷ items_wanted g p (record_after g p 0 r).fronts (want (record_after g p 0 r))
@@ -83,8 +83,8 @@ abbrev pub files : Standing → Bool
 files (Beginning word) = false
 files (Going l fresh) = is_filing (want l.state)
 
--- The items that are left after one more value. A store and a load give one value, a row all up to its first 0. None if no
--- item is left, or if a store gave another value than 0.
+-- The items that are left after one more value. A store and a load give one value, a row all up to
+-- its first 0. None if no item is left, or if a store gave another value than 0.
 abbrev pub left_after : List Item → ℕ → Option (List Item)
 left_after [] v = None
 left_after (Store word value ∷ items) zero = Some items
@@ -108,8 +108,8 @@ abbrev pub wants_load : Standing → Bool
 wants_load (Beginning word) = true
 wants_load (Going l fresh) = is_load (want l.state)
 
--- Worker p, in this standing, wants what is left of its batch. If nothing is left, the batch was as long as it could be:
--- the worker's next access isn't a load.
+-- Worker p, in this standing, wants what is left of its batch. If nothing is left, the batch was as
+-- long as it could be: the worker's next access isn't a load.
 abbrev pub WantsLeft : Givens → ℕ → Standing → List Item → Type 0
 WantsLeft g p s [] = wants_load s ≡ false
 WantsLeft g p s (item ∷ rest) = items_of g p s ≡ item ∷ rest
@@ -126,8 +126,9 @@ abbrev pub PerformsOrRests : Standing → Type 0
 PerformsOrRests (Beginning word) = ⊥
 PerformsOrRests (Going l fresh) = (1 ≤ to_perform (Going l fresh)) ⊎ (wants_nothing l.state.phase ≡ true)
 
--- The standing of worker p once nothing is left of these items. Its next access is no load. If it has loaded nothing by
--- them and announced nothing, it has a job to perform now, or goes on no more.
+-- The standing of worker p once nothing is left of these items. Its next access is no load. If it
+-- has loaded nothing by them and announced nothing, it has a job to perform now, or goes on no
+-- more.
 pub record IsAtEnd (p : ℕ) (items : List Item) (s : Standing) : Type 0 where
   pub no_load : wants_load s ≡ false
   pub rests : loads_or_announces p items ≡ false → PerformsOrRests s

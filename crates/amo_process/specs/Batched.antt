@@ -1,5 +1,6 @@
--- Processes over one list of registers that ask for batches. Each carries out what is left of its batch, one access at a
--- time, and asks anew if nothing is left. The accesses of several may come in any order.
+-- Processes over one list of registers that ask for batches. Each carries out what is left of its
+-- batch, one access at a time, and asks anew if nothing is left. The accesses of several may come
+-- in any order.
 use Rattle.std.specs.Prelude.{ℕ, List, [], ◌∷◌, Option, Some, None, slice_index}
 use Rattle.amo_sets.specs.Lists.{numbered, put, table}
 use Rattle.amo_givens.specs.declared.givens.Givens.{Givens}
@@ -11,7 +12,8 @@ use Rattle.amo_process.specs.declared.batch.Item.TheVariants.{Store, Load, LoadU
 use Rattle.amo_process.specs.Shared.{Shared, first_shared, standing_at, shared_after}
 use Rattle.amo_process.specs.Batch.{items_of, left_after, carried_out}
 
--- The shared words and lists, and for each worker what is left of the batch that its process asked for.
+-- The shared words and lists, and for each worker what is left of the batch that its process asked
+-- for.
 pub record Batched : Type 0 where
   pub shared : Shared
   pub left : List (List Item)
@@ -25,7 +27,8 @@ abbrev pub batch_at : Givens → ℕ → Option Standing → List Item
 batch_at g p None = []
 batch_at g p (Some s) = items_of g p s
 
--- the next items of the process of p: what is left, or, if nothing is left, the batch for which it asks
+-- the next items of the process of p: what is left, or, if nothing is left, the batch for which it
+-- asks
 abbrev pub next_items : Givens → Shared → ℕ → List Item → List Item
 next_items g s p [] = batch_at g p (standing_at g s p)
 next_items g s p (item ∷ items) = item ∷ items

@@ -1,6 +1,6 @@
--- The values that a process has read since it began, and the standing of its worker then. It begins by loading the worker's
--- own registers: the announcement, the count of claims, and the row up to its first 0. Then it goes on as the machine that
--- restarts from them.
+-- The values that a process has read since it began, and the standing of its worker then. It begins
+-- by loading the worker's own registers: the announcement, the count of claims, and the row up to
+-- its first 0. Then it goes on as the machine that restarts from them.
 use Rattle.std.specs.Prelude.{◌≡◌, ℕ, zero, suc, ◌+◌, ◌*◌, ◌<◌, Bool, true, false, not, ◌&&◌, List, [], ◌∷◌, Option, Some, None, length, nat_le, ◌==◌, if◌then◌else◌}
 use Rattle.amo_kk.specs.Record.{job_in_hand}
 use Rattle.amo_kk.specs.Step.{want, record_after}
@@ -13,7 +13,8 @@ use Rattle.amo_kk.specs.declared.phase.Want.TheVariants.{StoreNext, LoadNext, Lo
 use Rattle.amo_process.specs.declared.standing.Standing.{Standing}
 use Rattle.amo_process.specs.declared.standing.Standing.TheVariants.{Beginning, Going}
 
--- whether v can be what this load or store gave: a job or 0, 0 in the last place of a row, and 0 of a store
+-- whether v can be what this load or store gave: a job or 0, 0 in the last place of a row, and 0 of
+-- a store
 abbrev pub can_hear : Givens → ℕ → Want → Bool
 can_hear g v (StoreNext j) = v == 0
 can_hear g v (LoadNext q) = nat_le v g.jobs
@@ -43,8 +44,8 @@ abbrev pub going : Givens → ℕ → Bool → Option Record → Option Standing
 going g p fresh (Some r) = Some (Going (record { givens = g; number = p; state = r }) fresh)
 going g p fresh None = None
 
--- the standing of worker p that has loaded its announcement, its count of claims and this much of its row, and has then, if
--- the row was loaded to its first 0, read the rest
+-- the standing of worker p that has loaded its announcement, its count of claims and this much of
+-- its row, and has then, if the row was loaded to its first 0, read the rest
 abbrev pub standing_in : Givens → ℕ → (next claim : ℕ) (row : List ℕ) → Option (List ℕ) → Option Standing
 standing_in g p next claim row None = if nat_le (length row) g.jobs then Some (Beginning (done_word g p (length row + 1))) else None
 standing_in g p next claim row (Some rest) =
@@ -74,7 +75,8 @@ abbrev pub to_perform : Standing → ℕ
 to_perform (Beginning word) = 0
 to_perform (Going l fresh) = if fresh then 0 else job_in_hand l.state.phase
 
--- the job in doubt, or 0: what it has in its hand and began with. It may or may not have been performed
+-- the job in doubt, or 0: what it has in its hand and began with. It may or may not have been
+-- performed
 abbrev pub in_doubt : Standing → ℕ
 in_doubt (Beginning word) = 0
 in_doubt (Going l fresh) = if fresh then job_in_hand l.state.phase else 0

@@ -64,7 +64,8 @@ shared_after_access s p (Load word) = with_heard s p (slice_index s.words word) 
 shared_after_access s p (Store word v) = with_heard s p 0 (set s.words word v)
 shared_after_access s p Nothing = s
 
--- after the process of p, which stands so, leaves: it stores 0 to its announcement, and does nothing more
+-- after the process of p, which stands so, leaves: it stores 0 to its announcement, and does
+-- nothing more
 abbrev pub shared_after_leave : Givens → Shared → ℕ → Option Standing → Shared
 shared_after_leave g s p None = s
 shared_after_leave g s p (Some (Beginning word)) = s
@@ -85,7 +86,8 @@ shared_after_all g s (h ∷ hs) = shared_after_all g (shared_after g s h) hs
 abbrev pub shared_of : Givens → List Happening → Shared
 shared_of g hs = shared_after_all g (first_shared g) hs
 
--- the acts of a tale that come of it: an access of the machine is a turn, a new process is a return, and loading own words is nothing
+-- the acts of a tale that come of it: an access of the machine is a turn, a new process is a
+-- return, and loading own words is nothing
 abbrev pub acts_of_step : ℕ → Option Standing → List Act
 acts_of_step p None = []
 acts_of_step p (Some (Beginning word)) = []
@@ -120,7 +122,8 @@ told_to_perform g s p = told_by (standing_at g s p)
 abbrev pub own_words : Process → List ℕ
 own_words a = a.next ∷ a.claim ∷ entries_of a.row ++ 0 ∷ []
 
--- The process of worker p has loaded some of its own words, not all of them, and its record is the one that they give.
+-- The process of worker p has loaded some of its own words, not all of them, and its record is the
+-- one that they give.
 pub record IsBeginning (g : Givens) (p : ℕ) (heard : List ℕ) (a : Process) : Type 0 where
   pub few : length heard < length (own_words a)
   pub loaded : heard ≡ take (length heard) (own_words a)

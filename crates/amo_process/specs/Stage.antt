@@ -20,13 +20,15 @@ pub record IsLoading (g : Givens) (own : List ℕ) : Type 0 where
   pub row : rest_of (drop 2 own) ≡ None
   pub few : length own ≤ g.jobs + 2
 
--- the stage may be that of worker p with these own words loaded: until they are all there its machine is a new one
+-- the stage may be that of worker p with these own words loaded: until they are all there its
+-- machine is a new one
 abbrev pub StageFits : Givens → ℕ → List ℕ → Stage → Type 0
 StageFits g p own (Loading l) = (l ≡ record { givens = g; number = p; state = first_record g p }) × IsLoading g own
 StageFits g p own (Stepping l fresh) = (l.givens ≡ g) × (l.number ≡ p)
 StageFits g p own Refused = ⊤
 
--- The facts about a process of worker p: it has room for all own registers, the last 0 of the row among them.
+-- The facts about a process of worker p: it has room for all own registers, the last 0 of the row
+-- among them.
 pub record IsHeld (g : Givens) (p : ℕ) (own : List ℕ) (room : ℕ) (stage : Stage) : Type 0 where
   pub worker : IsWorker g p
   pub room_is : room ≡ g.jobs + 3

@@ -31,7 +31,8 @@ own_after v own None = own
 own_after v own (Some (Beginning word)) = own ++ v ∷ []
 own_after v own (Some (Going l fresh)) = own
 
--- the standing after one more value: by its own registers while it loads them, v among them, then by the machine's step
+-- the standing after one more value: by its own registers while it loads them, v among them, then
+-- by the machine's step
 abbrev pub standing_after : Givens → ℕ → ℕ → List ℕ → Option Standing → Option Standing
 standing_after g p v own None = None
 standing_after g p v own (Some (Beginning word)) = standing_of g p own

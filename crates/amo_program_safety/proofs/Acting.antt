@@ -1,4 +1,5 @@
--- Lemmas on the calls of a process: how each call changes the journal of the process, and how the site follows.
+-- Lemmas on the calls of a process: how each call changes the journal of the process, and how the
+-- site follows.
 use Rattle.std.proofs.Common.{◌≡◌, inl, inr, ⊎_elim, ℕ, List, [], ◌∷◌, ◌++◌, Option, Some, None, refl, sym, ap, ◌∙◌, subst}
 use Rattle.std.proofs.lemmas.Bool.{cases_eq}
 use Rattle.amo_clearance_safety.specs.Model.{Attempt as Name, IsOneOf, Away, Free, Site, site_after, Dies, Begins, Lands, Intends, Looks, Opens, line_of}
@@ -15,7 +16,8 @@ use Rattle.amo_program_safety.proofs.Effects.{effect_goes}
 
 -- ---- the site
 
--- The site v' differs from v only for the worker q, except that more attempts may be opened or settled.
+-- The site v' differs from v only for the worker q, except that more attempts may be opened or
+-- settled.
 pub record Turns (v v' : Site) (q : ℕ) : Type 0 where
   pub alive : v'.alive ≡ v.alive
   pub performed : v'.performed ≡ v.performed

@@ -267,7 +267,8 @@ answer_is_kept w v pid p ph entry m answer rest =
     no_lines : lines_in log.rest ≡ []
     no_lines = ap lines_in (rest ∙ ap (rest_by p.owed) m.kernel) ∙ put_no_lines p.owed entry (owes_answers v p.worker p.owed stands.owes) answer fits
 
--- After a process has appended an answer, the site may change for its worker, but keeps the intents.
+-- After a process has appended an answer, the site may change for its worker, but keeps the
+-- intents.
 pub puts_answer : (w : World) (v : Site) (pid : ℕ) (p : Process) (ph : Phase) (entry : Entry) (v' : Site) → Made w v pid p ph (HasPut entry) → IsAnswer entry
     → w.guard p.worker ≡ Some pid → (w.logs (Journal p.worker)).rest ≡ rest_by p.owed p.writes → Turns v v' p.worker → v'.kept p.worker ≡ v.kept p.worker
     → At (next_world w pid p (HasPut entry)) v' pid (process_by p (HasPut entry)) (phase_after ph (HasPut entry))

@@ -81,7 +81,8 @@ are_journals first (suc n) f (inr one) = are_journals (first + 1) n f one
 
 -- ---- the site looks
 
--- If no attempt that was read in this journal stands against the line, the journal is clear for the line in the model.
+-- If no attempt that was read in this journal stands against the line, the journal is clear for the
+-- line in the model.
 is_clear_by : (w : World) (v : Site) (goes : Goes w v) (read : LogFile → List (List ℕ)) (logs : Logs) (r k : ℕ) (es : List Attempt) (own : AttemptId) (line : ℕ)
     → Knows v read logs → r ≡ suc k → slice_get logs.journals k ≡ Some es → AreRead (w.logs (Journal r)) (read (Journal r)) → any_stands logs.findings own line r 1 es ≡ false
     → IsClear v r (record { worker = own.worker; serial = own.serial }) line
@@ -106,7 +107,8 @@ is_clear_by w v goes read logs r k es own line knows at is (more, are) none seri
     same_name : (a b c d : ℕ) → a ≡ b → c ≡ d → name a c ≡ name b d
     same_name a b c d ab cd = ap (λ q. name q c) ab ∙ ap (name b) cd
 
--- By some events the model's process has looked at the journal of r, or an attempt in that journal stands against the line.
+-- By some events the model's process has looked at the journal of r, or an attempt in that journal
+-- stands against the line.
 record Looked (v : Site) (logs : Logs) (q s line r : ℕ) (seen : List ℕ) : Type 0 where
   pub events : List ModelEvent
   pub run : IsRunFrom Clearance MAX_WORKERS v events
@@ -316,7 +318,8 @@ clearing_step w v pid p me jobs s a j owes logs c m = ⊎_elim
 
 -- ---- the process reads the journals
 
--- After the journal of r was read, each journal is still covered: it is left to be read, was looked at, or keeps the line from being clear.
+-- After the journal of r was read, each journal is still covered: it is left to be read, was looked
+-- at, or keeps the line from being clear.
 covers_on : (logs logs' : Logs) (worker s line r : ℕ) (texts : List (List ℕ)) (seen now : List ℕ) (left : List LogFile) → Covers logs worker s line seen (Journal r ∷ left)
     → logs'.findings ≡ logs.findings → ReadsOne logs.count logs.journals r texts logs'.journals → ((x : ℕ) → IsOneOf seen x → IsOneOf now x) → IsOneOf now r ⊎ Stands logs' worker s line r
     → Covers logs' worker s line now left
@@ -343,7 +346,8 @@ covers_on logs logs' worker s line r texts seen now left covers same one more at
       ap (λ (fs : List Finding). any_stands fs (record { worker = worker; serial = s }) line q 1 es) same ∙ stands,
     )
 
--- If no attempt stands against the line and no journal is left to be read, the model's process has looked at all journals.
+-- If no attempt stands against the line and no journal is left to be read, the model's process has
+-- looked at all journals.
 all_seen : (logs : Logs) (worker s line : ℕ) (seen : List ℕ) → Covers logs worker s line seen [] → IsOneOf seen 0 → stands_in logs.findings (record { worker = worker; serial = s }) line 1 logs.journals ≡ false
     → HasSeenAll MAX_WORKERS seen
 all_seen logs worker s line seen covers first none zero few = first

@@ -21,7 +21,8 @@ pub record Untouched (w : World) (v : Site) (w' : World) (v' : Site) (q : ℕ) :
   pub kept : v'.kept q ≡ v.kept q
   pub log : w'.logs (Journal q) ≡ w.logs (Journal q)
 
--- A step of the process pid has changed only its own part of the world and of the site. The part of each other worker is untouched.
+-- A step of the process pid has changed only its own part of the world and of the site. The part of
+-- each other worker is untouched.
 pub record Effect (w : World) (v : Site) (w' : World) (v' : Site) (pid : ℕ) (p p' : Process) : Type 0 where
   pub process_is : w'.process ≡ with_at w.process pid (Some p')
   pub worker_is : p'.worker ≡ p.worker

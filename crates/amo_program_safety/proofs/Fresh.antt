@@ -1,4 +1,5 @@
--- An operator's command knows a run by its logs. It appends an answer only to an attempt that is final or whose outcome a journal has.
+-- An operator's command knows a run by its logs. It appends an answer only to an attempt that is
+-- final or whose outcome a journal has.
 use Rattle.std.proofs.Common.{◌≡◌, ◌⊎◌, inl, inr, ⊎_elim, ℕ, zero, suc, ◌+◌, ◌≤◌, Bool, true, false, cond, ◌&&◌, ◌||◌, List, [], ◌∷◌, ◌++◌, length, map, get_or, Option, Some, None, refl, sym, ap, subst, ◌∙◌, arith}
 use Rattle.std.specs.Prelude.{slice_get, slice_set, ◌-◌, ◌==◌, not, is_some, nat_le}
 use Rattle.std.specs.List.{list_all, list_any}
@@ -230,7 +231,8 @@ idle : (answer : Option Outcome) → is_idle answer ≡ true → (c : Outcome) �
 idle None h = absurd (cc h)
 idle (Some c) h = (c, refl)
 
--- The attempt `id` has an outcome in this list of attempts, whose first attempt has this serial number.
+-- The attempt `id` has an outcome in this list of attempts, whose first attempt has this serial
+-- number.
 abbrev IsAnsweredAt : (worker serial : ℕ) → List Attempt → AttemptId → Type 0
 IsAnsweredAt worker serial es id = (i : ℕ) × (e : Attempt) × (c : Outcome) × (id.worker ≡ worker) × (id.serial ≡ serial + i) × (slice_get es i ≡ Some e) × (e.answer ≡ Some c)
 
@@ -250,7 +252,8 @@ untouched_at findings worker serial (e ∷ es) id one = by_test (λ there. untou
     by_test rest true it (inr there) = later (rest there)
     by_test rest false it there = later (rest there)
 
--- The attempt `id` has an outcome in these journals, the first of which is the journal of this worker.
+-- The attempt `id` has an outcome in these journals, the first of which is the journal of this
+-- worker.
 abbrev IsAnsweredIn : (worker : ℕ) → List (List Attempt) → AttemptId → Type 0
 IsAnsweredIn worker journals id = (k : ℕ) × (es : List Attempt) × (slice_get journals k ≡ Some es) × IsAnsweredAt (worker + k) 1 es id
 
@@ -318,7 +321,8 @@ attempts_answered P count texts es h says =
     (λ s c one. let (t, in_texts, said) = text_says entries texts are (Answered s c) one in says t s c in_texts said)
     is
 
--- If P holds for the attempts with an outcome in each journal, P holds for every attempt whose outcome a journal has.
+-- If P holds for the attempts with an outcome in each journal, P holds for every attempt whose
+-- outcome a journal has.
 pub outcome_is : (P : (worker serial : ℕ) → Type 0) (journals : List (List Attempt)) → ((k : ℕ) (es : List Attempt) → slice_get journals k ≡ Some es → AreAnswered (P (suc k)) es)
     → (worker serial : ℕ) → HasOutcome journals worker serial → P worker serial
 outcome_is P journals each worker serial has =
@@ -440,7 +444,8 @@ doubt_of P js i time (Some es) j es' some was is =
     (es, ap (slice_get js) now.0 ∙ was, λ old new. subst (λ (l : List Attempt). AreAnswered P l) now.1 (doubted_answered P es i.serial time (slice_get es (i.serial - 1)) some old (new now.0))))
     (set_cases js (i.worker - 1) (doubted es i.serial time (slice_get es (i.serial - 1))) j es' is)
 
--- After a doubt about an attempt was recorded, a journal has no new outcome except that of this attempt.
+-- After a doubt about an attempt was recorded, a journal has no new outcome except that of this
+-- attempt.
 pub with_doubt_of : (P : ℕ → Type 0) (k : Known) (i : AttemptId) (time : ℕ) (j : ℕ) (es' : List Attempt) → 1 ≤ i.serial → slice_get (with_doubt k i time).journals j ≡ Some es'
     → (es : List Attempt) × (slice_get k.journals j ≡ Some es) × (AreAnswered P es → (j ≡ i.worker - 1 → P i.serial) → AreAnswered P es')
 with_doubt_of P k i time j es' some is = doubt_of P k.journals i time (slice_get k.journals (i.worker - 1)) j es' some refl is

@@ -1,4 +1,5 @@
--- A process gives up an attempt that was never handed over. The attempt is opened, and the process attempts no line.
+-- A process gives up an attempt that was never handed over. The attempt is opened, and the process
+-- attempts no line.
 use Rattle.std.proofs.Common.{◌≡◌, inl, ◌≤◌, ℕ, List, [], ◌∷◌, Some, refl, sym, ap, ◌∙◌, subst}
 use Rattle.amo_clearance_safety.specs.Model.{Attempt as Name, Handing, IsOneOf, Away, Free, Clearing as ModelClearing, Site, site_after, Event as ModelEvent, Dies, Begins, Opens, line_of}
 use Rattle.amo_clearance_safety.specs.Runs.{Clearance, IsRunFrom, site_from, IsOver as IsOverThere}

@@ -251,7 +251,8 @@ clears_from me jobs s a j logs left (HasRead f texts) n is = on_from me jobs s a
 clears_from me jobs s a j logs left (Fell (ReadOn f)) n is = absurd (cc is)
 clears_from me jobs s a j logs left c n is = absurd (cc is)
 
--- An attempt that a process has in hand after a call was in its hand before, or its intent was just put.
+-- An attempt that a process has in hand after a call was in its hand before, or its intent was just
+-- put.
 pub phase_from : (ph : Phase) (c : Call) → PhaseFrom ph (phase_after ph c)
 phase_from (Starts worker start) c = none_from (Starts worker start) (starts_on worker start c) (starts_none worker start c)
 phase_from (Asks me st) c = none_from (Asks me st) (asks_on me st c) (asks_none me st c)

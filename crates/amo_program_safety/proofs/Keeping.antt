@@ -38,7 +38,8 @@ use Rattle.amo_program_safety.proofs.Forever.{just_put}
 use Rattle.amo_program_safety.proofs.Commanding.{doubt_phase, recover_free, calls_lead, records_lead}
 use Rattle.amo_program_safety.proofs.Recording.{recorded_have_ended}
 
--- A text that is kept of the journal of this worker has an outcome of the attempt of this serial number.
+-- A text that is kept of the journal of this worker has an outcome of the attempt of this serial
+-- number.
 abbrev pub KeptSays : World → (worker serial : ℕ) → Type 0
 KeptSays w q s = (text : List ℕ) × (c : Outcome) × IsOneOf (w.logs (Journal q)).kept text × IsOneOf (entries_of (append_in text)) (Answered s c)
 
@@ -72,7 +73,8 @@ left_journal log owed (HasPut entry) leaves = absurd leaves
 left_journal log owed HasPaid leaves = absurd leaves
 left_journal log owed c leaves = refl
 
--- A process that still has its attempt in hand after a call has not changed its journal by the call.
+-- A process that still has its attempt in hand after a call has not changed its journal by the
+-- call.
 held_leaves : (ph : Phase) (c : WorkerCall) (n : ℕ) → held_in ph ≡ Some n → held_in (phase_after ph c) ≡ Some n → Leaves c
 held_leaves (Works me jobs (Clearing s a j) owes logs) (Recovered last texts) n before after = absurd (cc after)
 held_leaves (Works me jobs (Clearing s a j) owes logs) (HasPut entry) n before after = absurd (cc after)

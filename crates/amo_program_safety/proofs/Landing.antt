@@ -19,7 +19,8 @@ run_both v (e ∷ es) more run then = (run.0, run_both (site_after v e) es more 
 
 -- ---- intents of these lines
 
--- By some events intents of these lines come into the journal of the worker q. No process has the lock on this journal.
+-- By some events intents of these lines come into the journal of the worker q. No process has the
+-- lock on this journal.
 pub record Landed (v : Site) (q : ℕ) (lines : List ℕ) : Type 0 where
   pub events : List ModelEvent
   pub run : IsRunFrom Clearance MAX_WORKERS v events

@@ -1,5 +1,5 @@
--- The steps of a machine other than appends and calls of operators' commands. For each step, the model has events that lead to a site that goes with
--- the machine.
+-- The steps of a machine other than appends and calls of operators' commands. For each step, the
+-- model has events that lead to a site that goes with the machine.
 use Rattle.std.proofs.Common.{◌≡◌, ℕ, List, [], ◌∷◌, Option, Some, None, refl, sym, ap, ◌∙◌, subst}
 use Rattle.std.specs.Prelude.{true, false}
 use Rattle.amo_clearance_safety.specs.Model.{Handing, Site}

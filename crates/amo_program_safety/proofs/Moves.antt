@@ -14,7 +14,8 @@ pub record Reaches (v : Site) (w : World) : Type 0 where
   pub run : IsRunFrom Clearance MAX_WORKERS v events
   pub goes : Goes w (site_from v events)
 
--- Nothing has changed for the process p, except that more attempts may be handed over, opened or settled.
+-- Nothing has changed for the process p, except that more attempts may be handed over, opened or
+-- settled.
 pub record Same (w : World) (v : Site) (w' : World) (v' : Site) (pid : ℕ) (p : Process) : Type 0 where
   pub lost : (q : ℕ) → w'.guard q ≡ Some pid → w.guard q ≡ Some pid
   pub guard : w.guard p.worker ≡ Some pid → w'.guard p.worker ≡ Some pid

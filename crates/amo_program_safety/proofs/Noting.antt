@@ -1,4 +1,5 @@
--- How a process comes to record an outcome of an attempt: it has declined the attempt, or a runner has reported the outcome.
+-- How a process comes to record an outcome of an attempt: it has declined the attempt, or a runner
+-- has reported the outcome.
 use Rattle.std.proofs.Common.{◌≡◌, ◌⊎◌, inl, inr, ⊎_elim, sym, ap, ◌∙◌, subst, ℕ, zero, suc, List, [], ◌∷◌, ◌++◌, length, Option, Some, None, refl}
 use Rattle.std.specs.Prelude.{Bool, true, false, ◌==◌, ◌+◌, if◌then◌else◌, Result, Ok, Err}
 use Rattle.std.proofs.lemmas.Bool.{cases_eq, eq-eqb, ne_eqb}
@@ -70,7 +71,8 @@ DeedHeard d n = ⊥
 some_is : {a b : ℕ} → Some a ≡ Some b → a ≡ b
 some_is e = cc
 
--- The stage notes an attempt that it noted before, an attempt that it has declined, or an attempt whose outcome a runner has reported.
+-- The stage notes an attempt that it noted before, an attempt that it has declined, or an attempt
+-- whose outcome a runner has reported.
 abbrev StageNotes : Stage → Deed → ℕ → Type 0
 StageNotes st d n = (noted_at st ≡ Some n) ⊎ (HasPutIt st n ⊎ DeedHeard d n)
 
@@ -347,8 +349,9 @@ clears_notes me jobs s a j logs left (HasRead f texts) n is = inr (inl (on_notes
 clears_notes me jobs s a j logs left (Fell (ReadOn f)) n is = inr (inl (some_is is, f, refl))
 clears_notes me jobs s a j logs left c n is = absurd (cc is)
 
--- After a call, a process is about to record an outcome only in one of three cases. It was about to record the outcome before. Or it has declined the
--- attempt. Or its runner has reported the outcome.
+-- After a call, a process is about to record an outcome only in one of three cases. It was about to
+-- record the outcome before. Or it has declined the attempt. Or its runner has reported the
+-- outcome.
 pub phase_notes : (ph : Phase) (c : Call) → PhaseNotes ph c
 phase_notes (Starts worker start) c = none_notes (Starts worker start) c (starts_none worker start c)
 phase_notes (Asks me st) c = asks_notes me st c

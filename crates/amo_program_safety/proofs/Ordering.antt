@@ -29,7 +29,8 @@ TextsHold v t = (k : ℕ) (texts : List (List ℕ)) → slice_get t.journals k �
 abbrev pub AreKept : Site → (worker : ℕ) → List (List ℕ) → Type 0
 AreKept v q texts = (s line : ℕ) → line_of (lines_in texts) s ≡ Some line → line_of (v.kept q) s ≡ Some line
 
--- The command has the locks on the journals of the idle workers, and each intent that it has read there is kept.
+-- The command has the locks on the journals of the idle workers, and each intent that it has read
+-- there is kept.
 abbrev pub HasIdle : Machine → Site → (process : ℕ) → Texts → Type 0
 HasIdle m v pid t = (q : ℕ) → IsOneOf t.idle q → (1 ≤ q) × (m.held q ≡ Some pid) × ((texts : List (List ℕ)) → slice_get t.journals (q - 1) ≡ Some texts → AreKept v q texts)
 

@@ -51,7 +51,8 @@ plain_call pid (Fell r) is = record { log = λ l owed. refl; guard = λ g. refl;
 plain_call pid (Tried Round hold got) is = record { log = λ l owed. refl; guard = λ g. refl; read = λ read. refl; owes = tt; text = λ owed. refl }
 plain_call pid c is = record { log = λ l owed. refl; guard = λ g. refl; read = λ read. refl; owes = tt; text = λ owed. refl }
 
--- The call changes neither the journal nor a lock, and adds no owed entry, as a failed call does. Its append may still have been written.
+-- The call changes neither the journal nor a lock, and adds no owed entry, as a failed call does.
+-- Its append may still have been written.
 pub record IsSilent (pid : ℕ) (c : Call) : Type 0 where
   pub log : (l : Log) (owed : Option Entry) → journal_by l owed c ≡ l
   pub guard : (g : ℕ → Option ℕ) → guard_by g pid c ≡ g

@@ -1,4 +1,5 @@
--- Runs by moves: a process does what its phase has it do next, and the world gives what it may give.
+-- Runs by moves: a process does what its phase has it do next, and the world gives what it may
+-- give.
 use Rattle.std.proofs.Common.{◌≡◌, inl, inr, ℕ, zero, suc, ◌+◌, ◌<◌, ◌^◌, Bool, true, false, cond, ◌&&◌, List, [], ◌∷◌, ◌++◌, length, drop, Option, Some, None, refl, sym, ap, subst, ◌∙◌, arith}
 use Rattle.std.specs.Prelude.{◌==◌, nat_lt, not, slice_get, is_none, option_map, option_and_then, if◌then◌else◌}
 use Rattle.std.proofs.lemmas.Bool.{and_parts, eq-eqb, eqb-true}
@@ -43,7 +44,8 @@ use Rattle.amo_program_safety.specs.Runs.{AreRead, FitsRequest, IsWritten, IsIts
 
 -- ---- what a process does next
 
--- Processes are given the file of the round that they join, the lines of the run, how much of a log is counted, and the reply of a runner.
+-- Processes are given the file of the round that they join, the lines of the run, how much of a log
+-- is counted, and the reply of a runner.
 pub record Given : Type 0 where
   pub file : RoundFile
   pub lines : List (List ℕ)

@@ -36,7 +36,8 @@ read_whole log texts none (more, is) = is ∙ (ap (λ (r : List (List ℕ)). log
     take_none zero = refl
     take_none (suc n) = refl
 
--- After the journal of r was read on, its attempts go on by the new texts. The findings and the other journals stay.
+-- After the journal of r was read on, its attempts go on by the new texts. The findings and the
+-- other journals stay.
 pub journal_read_on : (logs logs' : Logs) (r : ℕ) (texts : List (List ℕ)) → logs_after logs (Journal r) texts ≡ Some logs' → (logs'.findings ≡ logs.findings) × ReadsOne logs.count logs.journals r texts logs'.journals
 journal_read_on logs logs' r texts after =
     let (journals, are, all) = map_some (λ (js : List (List Attempt)). record logs { journals = js }) (journals_after logs.count logs.journals r texts) logs' after in

@@ -1,4 +1,5 @@
--- A process that asks its runner to perform an attempt holds this attempt, and has not handed it over before.
+-- A process that asks its runner to perform an attempt holds this attempt, and has not handed it
+-- over before.
 use Rattle.std.proofs.Common.{◌≡◌, inr, ⊎_elim, ◌<◌, ◌^◌, ℕ, Bool, List, [], ◌∷◌, length, Some, sym, ◌∙◌, subst}
 use Rattle.amo_clearance_safety.specs.Model.{Clearing as ModelClearing, Site, line_of}
 use Rattle.amo_clearance_safety.specs.Runs.{HasSeenAll}

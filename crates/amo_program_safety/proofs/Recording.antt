@@ -1,4 +1,5 @@
--- An attempt with a recorded outcome has ended on its machine, if runners report outcomes only of attempts that have ended.
+-- An attempt with a recorded outcome has ended on its machine, if runners report outcomes only of
+-- attempts that have ended.
 use Rattle.std.proofs.Common.{◌≡◌, ◌⊎◌, inl, inr, ⊎_elim, ℕ, List, [], ◌∷◌, ◌++◌, take, Option, Some, None, refl, sym, ap, ◌∙◌, subst}
 use Rattle.amo_clearance_safety.specs.Model.{Handing, IsOneOf, Clearing as ModelClearing, Site}
 use Rattle.amo_clearance_safety.specs.Runs.{site_from}
@@ -237,7 +238,8 @@ text_has owed r text x fits is one = absurd (cc is)
 
 -- ---- the claim
 
--- Each attempt that has a recorded outcome, or that a process is about to record, has ended. Each attempt on the machine was handed over.
+-- Each attempt that has a recorded outcome, or that a process is about to record, has ended. Each
+-- attempt on the machine was handed over.
 pub record AllEnd (m : Machine) : Type 0 where
   pub ended : (q s : ℕ) → IsNoted m.world q s → HasEndedHere m q s
   pub handed : (h : Handing) → IsOneOf m.waiting h ⊎ IsOneOf m.running h → IsOneOf m.world.handed h

@@ -1,4 +1,5 @@
--- A run in which runners report outcomes only of attempts that have ended, and in which an outcome is recorded.
+-- A run in which runners report outcomes only of attempts that have ended, and in which an outcome
+-- is recorded.
 use Rattle.std.proofs.Common.{◌≡◌, inl, Bool, true, false, ◌&&◌, List, [], ◌∷◌, ◌++◌, map, refl}
 use Rattle.std.proofs.lemmas.Bool.{and_parts}
 use Rattle.std.specs.Fmt.{digits}

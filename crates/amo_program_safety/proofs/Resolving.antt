@@ -117,7 +117,8 @@ module _ (w : World) (v : Site) (pid : ℕ) (p : Process) where
       h.2)
   held_by ph s h idle is = absurd (cc is)
 
--- A process that has a settled attempt in hand has handed it over, unless it appends that the attempt was not started.
+-- A process that has a settled attempt in hand has handed it over, unless it appends that the
+-- attempt was not started.
 pub not_held_by : (w : World) (v : Site) → Goes w v → (q s : ℕ) → Settled v q s
     → (pid : ℕ) (p : Process) → w.process pid ≡ Some p → p.worker ≡ q → p.writes ≡ None → held_in p.phase ≡ Some s
     → (h : Handing) × IsOneOf w.handed h × IsNamed q s h

@@ -1,4 +1,5 @@
--- Facts about a world and the site that goes with it. The site is a state of the model by journals alone.
+-- Facts about a world and the site that goes with it. The site is a state of the model by journals
+-- alone.
 use Rattle.std.proofs.Common.{◌≡◌, ◌⊎◌, ◌≤◌, ◌<◌, ◌^◌, ℕ, suc, List, [], ◌∷◌, ◌++◌, length, map, Option, Some, None}
 use Rattle.std.specs.Prelude.{⊤, true, slice_get}
 use Rattle.amo_clearance_safety.specs.Model.{Handing, IsOneOf, Away, Free, Clearing as ModelClearing, Site, line_of}
@@ -37,7 +38,8 @@ IsOpened v q s = IsOneOf v.opened (record { worker = q; serial = s })
 abbrev pub IsKept : Site → (worker serial : ℕ) → Type 0
 IsKept v q s = (line : ℕ) × (line_of (v.kept q) s ≡ Some line)
 
--- The intent of this attempt is kept, and the model's process of this worker doesn't hold the attempt. So that process never holds the attempt again.
+-- The intent of this attempt is kept, and the model's process of this worker doesn't hold the
+-- attempt. So that process never holds the attempt again.
 abbrev pub Settled : Site → (worker serial : ℕ) → Type 0
 Settled v q s = IsKept v q s × ((line : ℕ) (seen : List ℕ) → v.stage q ≡ ModelClearing s line seen → ⊥)
 
@@ -58,7 +60,8 @@ KnowsPrior v read (Some logs) = Knows v read logs
 
 -- ---- the lock and the attempt that a process has
 
--- The text that a process has written and doesn't know to be on the disk, as a list. The list is empty if the process has written no text.
+-- The text that a process has written and doesn't know to be on the disk, as a list. The list is
+-- empty if the process has written no text.
 abbrev pub rest_if : Option (List ℕ) → List (List ℕ)
 rest_if None = []
 rest_if (Some text) = text ∷ []
@@ -67,7 +70,8 @@ abbrev pub rest_by : (owed : Option Entry) → Option Request → List (List ℕ
 rest_by owed None = []
 rest_by owed (Some r) = rest_if (text_by owed r)
 
--- The process has the lock on its journal. Each append there that is not known to be on the disk is its own.
+-- The process has the lock on its journal. Each append there that is not known to be on the disk is
+-- its own.
 pub record Owns (w : World) (pid : ℕ) (p : Process) : Type 0 where
   pub guard : w.guard p.worker ≡ Some pid
   pub rest : (w.logs (Journal p.worker)).rest ≡ rest_by p.owed p.writes
@@ -83,7 +87,8 @@ pub record Fresh (w : World) (v : Site) (pid : ℕ) (p : Process) : Type 0 where
   pub away : v.stage p.worker ≡ Away
   pub idle : p.writes ≡ None
 
--- The intent of the process for this line is kept, and the attempt was not handed over. In the model, the process has looked at the journals `seen`.
+-- The intent of the process for this line is kept, and the attempt was not handed over. In the
+-- model, the process has looked at the journals `seen`.
 pub record Holds (w : World) (v : Site) (pid : ℕ) (p : Process) (jobs : List ℕ) (s j line : ℕ) (seen : List ℕ) : Type 0 where
   pub owns : Owns w pid p
   pub stage : v.stage p.worker ≡ ModelClearing s line seen
@@ -120,7 +125,8 @@ ArePending v q is = (i : Pending) → IsOneOf is i → IsKept v q i.serial
 abbrev pub OpensIf : Site → ℕ → ℕ → JobResult → Type 0
 OpensIf v q s c = c ≡ Unbegun → IsOpened v q s
 
--- The process may do nothing any more. If it has the lock on its journal, no process has this journal in the model.
+-- The process may do nothing any more. If it has the lock on its journal, no process has this
+-- journal in the model.
 abbrev pub Halted : World → Site → ℕ → Process → Type 0
 Halted w v pid p = w.guard p.worker ≡ Some pid → v.stage p.worker ≡ Away
 
@@ -157,7 +163,8 @@ Stands logs worker s line q =
     (k : ℕ) × (es : List Attempt) × (q ≡ suc k) × (slice_get logs.journals k ≡ Some es)
     × (any_stands logs.findings (record { worker = worker; serial = s }) line q 1 es ≡ true)
 
--- Each journal is left to be read, was looked at, or has an attempt that keeps the line from being clear.
+-- Each journal is left to be read, was looked at, or has an attempt that keeps the line from being
+-- clear.
 abbrev pub Covers : Logs → (worker s line : ℕ) → (seen : List ℕ) → (left : List LogFile) → Type 0
 Covers logs worker s line seen left = (q : ℕ) → 1 ≤ q → q ≤ MAX_WORKERS → IsOneOf left (Journal q) ⊎ (IsOneOf seen q ⊎ Stands logs worker s line q)
 
@@ -169,13 +176,15 @@ abbrev pub ClearsAt : World → Site → ℕ → Process → (jobs : List ℕ) �
 ClearsAt w v pid p jobs s j logs left =
     (line : ℕ) × (seen : List ℕ) × Holds w v pid p jobs s j line seen × IsOneOf seen 0 × Covers logs p.worker s line seen left × AreJournals left
 
--- The process has written that its attempt was not started, and no process has its journal in the model.
+-- The process has written that its attempt was not started, and no process has its journal in the
+-- model.
 pub record Drops (w : World) (v : Site) (pid : ℕ) (p : Process) (s : ℕ) : Type 0 where
   pub owns : Owns w pid p
   pub away : v.stage p.worker ≡ Away
   pub writes : p.writes ≡ Some (Put (Answered s NotBegun))
 
--- If a process reads all logs in order to work in a round, it has read its own journal whole, or this journal is left to be read.
+-- If a process reads all logs in order to work in a round, it has read its own journal whole, or
+-- this journal is left to be read.
 abbrev pub ReadsOwn : World → Process → Purpose → List LogFile → Type 0
 ReadsOwn w p (ToWork file givens seat) left = IsOneOf left (Journal p.worker) ⊎ (p.read (Journal p.worker) ≡ (w.logs (Journal p.worker)).kept)
 ReadsOwn w p (ToBegin boot last known list) left = ⊤
@@ -224,7 +233,8 @@ OpensOpened v q entry = (s : ℕ) → entry ≡ Answered s NotBegun → IsOpened
 abbrev pub AnswersSettled : Site → (q : ℕ) → Entry → Type 0
 AnswersSettled v q entry = (s : ℕ) (c : Outcome) → entry ≡ Answered s c → Settled v q s
 
--- The owed entry is an answer to a settled attempt. If the entry opens the attempt, the attempt is opened in the site.
+-- The owed entry is an answer to a settled attempt. If the entry opens the attempt, the attempt is
+-- opened in the site.
 abbrev pub Owes : Site → ℕ → Option Entry → Type 0
 Owes v q None = ⊤
 Owes v q (Some entry) = IsAnswer entry × OpensOpened v q entry × AnswersSettled v q entry

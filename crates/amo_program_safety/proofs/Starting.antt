@@ -69,7 +69,8 @@ fresh_on w v pid p c guard fresh = record {
   idle = refl;
 }
 
--- A quiet process stays quiet after a call that appends nothing and changes neither its journal nor a lock.
+-- A quiet process stays quiet after a call that appends nothing and changes neither its journal nor
+-- a lock.
 pub quiet_stays : (w : World) (v : Site) (pid : ℕ) (p : Process) (c : Call) → IsItsCall p.writes (request_of c) → text_by p.owed (request_of c) ≡ None
     → guard_by w.guard pid c ≡ w.guard → journal_by (w.logs (Journal p.worker)) p.owed c ≡ w.logs (Journal p.worker) → Quiet w v pid p → Quiet (next_world w pid p c) v pid (process_by p c)
 quiet_stays w v pid p c its none guard log quiet = quiet_on w v pid p c quiet.owns.guard guard
@@ -186,7 +187,8 @@ checked w v pid p k c m = ⊎_elim
 
 -- ---- the journal is recovered
 
--- Intents that earlier processes have left come into the journal, and then the model's process begins.
+-- Intents that earlier processes have left come into the journal, and then the model's process
+-- begins.
 recovers_by : (w : World) (v : Site) (pid : ℕ) (p : Process) (k : ℕ) (last : Option RoundFile) (texts : List (List ℕ)) (more : ℕ)
     → texts ≡ (w.logs (Journal p.worker)).kept ++ take more (w.logs (Journal p.worker)).rest
     → Landed v p.worker (lines_in (take more (w.logs (Journal p.worker)).rest))

@@ -62,7 +62,8 @@ module _ (m m' : Machine) (v v' : Site) (pid : ℕ)
   stands_so (Puts left) h = λ (f : Finding) one not. settled f.worker f.serial (h f one not)
   stands_so Ended h = tt
 
--- The facts of a command's phase stay true if settled attempts, kept intents and the command's locks stay.
+-- The facts of a command's phase stay true if settled attempts, kept intents and the command's
+-- locks stay.
 pub stands_still : (m m' : Machine) (v v' : Site) (pid : ℕ) (ph : Phase) → ((q s : ℕ) → Settled v q s → Settled v' q s)
     → ((q s line : ℕ) → line_of (v.kept q) s ≡ Some line → line_of (v'.kept q) s ≡ Some line) → ((q : ℕ) → m.held q ≡ Some pid → m'.held q ≡ Some pid)
     → StandsAt m v pid ph → StandsAt m' v' pid ph

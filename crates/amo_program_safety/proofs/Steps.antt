@@ -69,7 +69,8 @@ pub stand_by : (w : World) (v v' : Site) (pid : ℕ) (p : Process) (ph : Phase) 
 stand_by w v v' pid p ph c m none turned here = stand_owing w v v' pid p ph c m
     (owes_on v' p.worker p.owed c none (owes_more v v' p.worker p.owed turned.opened turned.settled (m.goes.stand pid p m.lives).owes)) here
 
--- A process is quiet after a call if it has its lock, all appends of its journal are kept, and it attempts no line in the model.
+-- A process is quiet after a call if it has its lock, all appends of its journal are kept, and it
+-- attempts no line in the model.
 pub quiet_on : (w : World) (v' : Site) (pid : ℕ) (p : Process) (c : Call) → w.guard p.worker ≡ Some pid → guard_by w.guard pid c ≡ w.guard
     → (journal_by (w.logs (Journal p.worker)) p.owed c).rest ≡ [] → v'.stage p.worker ≡ Free → Quiet (next_world w pid p c) v' pid (process_by p c)
 quiet_on w v' pid p c own guard rest free = record {

@@ -18,7 +18,8 @@ pub record HasStopped (m : Machine) (pid q : ℕ) : Type 0 where
   pub held : m.held q ≡ Some pid
   pub idle : (h : Handing) → IsOneOf m.waiting h → h.worker ≡ q → ⊥
 
--- It has the lock of the journal of this attempt, no runner has an attempt of this worker, and nothing of the attempt's command is left.
+-- It has the lock of the journal of this attempt, no runner has an attempt of this worker, and
+-- nothing of the attempt's command is left.
 pub record HasEnded (m : Machine) (pid : ℕ) (i : AttemptId) : Type 0 where
   pub stopped : HasStopped m pid i.worker
   pub gone : (h : Handing) → IsOneOf m.running h → IsNamed i.worker i.serial h → ⊥
@@ -51,7 +52,8 @@ pub record Stops (m : Machine) : Type 0 where
 
 -- ---- what stays
 
--- It keeps its locks on journals, nothing comes to the runners of these workers, and only what a runner had is started.
+-- It keeps its locks on journals, nothing comes to the runners of these workers, and only what a
+-- runner had is started.
 pub record Calm (m m' : Machine) (pid : ℕ) : Type 0 where
   pub held : (q : ℕ) → m.held q ≡ Some pid → m'.held q ≡ Some pid
   pub waiting : (h : Handing) → m.held h.worker ≡ Some pid → IsOneOf m'.waiting h → IsOneOf m.waiting h

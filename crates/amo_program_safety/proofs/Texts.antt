@@ -88,7 +88,8 @@ lines_in_both (t ∷ xs) ys =
     ap (λ l. lines_of (entries_of (append_in t)) ++ l) (lines_in_both xs ys)
     ∙ sym (append_assoc (lines_of (entries_of (append_in t))) (lines_in xs) (lines_in ys))
 
--- The entries of some texts are the entries of the first text, followed by the entries of the other texts.
+-- The entries of some texts are the entries of the first text, followed by the entries of the other
+-- texts.
 pub entries_first : (text : List ℕ) (texts : List (List ℕ)) (entries : List Entry) → entries_in (text ∷ texts) ≡ Some entries
     → (a : Append) × (append_in text ≡ Some a) × (rest : List Entry) × (entries_in texts ≡ Some rest) × (entries_of_append a ++ rest ≡ entries)
 entries_first text texts entries h =
@@ -186,7 +187,8 @@ pub attempt_at : (es : List Attempt) (serial line : ℕ) → line_of (map (λ (a
 attempt_at es zero line h = absurd (cc h)
 attempt_at es (suc i) line h = let (e, is, at) = get_line es i line h in (i, e, refl, is, at)
 
--- The pending attempts are those without an answer. The first attempt of the list has the serial number `start`.
+-- The pending attempts are those without an answer. The first attempt of the list has the serial
+-- number `start`.
 
 abbrev StandsAt : ℕ → List Attempt → ℕ → ℕ → Type 0
 StandsAt start es s l = (i : ℕ) × (s ≡ start + i) × (slice_get (map (λ (a : Attempt). a.line) es) i ≡ Some l)
@@ -293,7 +295,8 @@ stands_at findings own line w (js ∷ journals) (suc k) es h is =
     let number : w + suc k ≡ (w + 1) + k = omega arith in
     ap (λ x. any_stands findings own line x 1 es) number ∙ stands_at findings own line (w + 1) journals k es rest is
 
--- The attempt doesn't stand against the line: it is the own attempt, its answer opens its line, or a finding says that it was not done.
+-- The attempt doesn't stand against the line: it is the own attempt, its answer opens its line, or
+-- a finding says that it was not done.
 abbrev IsExcused : List Finding → AttemptId → ℕ → ℕ → Attempt → Type 0
 IsExcused findings own worker serial e = ((worker ≡ own.worker) × (serial ≡ own.serial)) ⊎ ((reopens e.answer ≡ true) ⊎ (is_undone findings worker serial ≡ true))
 

@@ -176,7 +176,8 @@ if_performed_attempts_are_denied = twice PerformedAreNotDenied has_performed (Ca
     (call PerformedAreNotDenied (after first_world has_performed) 1 not_started (λ log. []) (Heard (perform_text 1 1 (codes "a")) not_started.reply) refl refl tt tt (λ serial way is h one named. one))
     refl
 
--- A process has handed its attempt over, and nothing of it is left. An operator answers it, and then the line comes to the runner again.
+-- A process has handed its attempt over, and nothing of it is left. An operator answers it, and
+-- then the line comes to the runner again.
 abbrev is_left : List Move
 is_left = hands_over ++ End 0 ∷ []
 
@@ -218,8 +219,8 @@ without_lines_once = (
 
 -- ---- the kernel and the disk
 
--- A second process of worker 1 gets the lock of its journal while the first one is about to hand its attempt over. The second one learns
--- truly that the attempt was not started.
+-- A second process of worker 1 gets the lock of its journal while the first one is about to hand
+-- its attempt over. The second one learns truly that the attempt was not started.
 abbrev both_live : List Move
 both_live = up_to_intent one 1 1 ++ clears one 1 ++ Birth 2 1 ∷ []
 

@@ -114,7 +114,8 @@ outcome_settles v q s time c settled n o e = subst (Settled v q) (serial_is s n 
     serial_is : (a b : ℕ) (x y : Outcome) → Answered a x ≡ Answered b y → a ≡ b
     serial_is a b x y e = cc
 
--- A process may owe the outcome of a settled attempt. If the outcome is `Unbegun`, the attempt must be opened.
+-- A process may owe the outcome of a settled attempt. If the outcome is `Unbegun`, the attempt must
+-- be opened.
 pub outcome_owes : (v : Site) (q s time : ℕ) (c : JobResult) → OpensIf v q s c → Settled v q s → Owes v q (Some (outcome_entry s time c))
 outcome_owes v q s time c opens settled = (tt, outcome_opens v q s time c opens, outcome_settles v q s time c settled)
 

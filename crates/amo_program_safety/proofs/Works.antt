@@ -88,7 +88,8 @@ module _ (w : World) (v : Site) (pid : ℕ) (p : Process) (jobs : List ℕ) wher
 
 -- ---- stages at which nothing is due
 
--- If nothing is due, the process is quiet. The facts of its stage hold in every world in which the process is quiet.
+-- If nothing is due, the process is quiet. The facts of its stage hold in every world in which the
+-- process is quiet.
 pub none_due : (w : World) (v : Site) (pid : ℕ) (p : Process) (jobs : List ℕ) (st : Stage) → due st ≡ None → WorksAt w v pid p jobs st
     → Quiet w v pid p × ((w' : World) (p' : Process) → p'.worker ≡ p.worker → Quiet w' v pid p' → WorksAt w' v pid p' jobs st)
 none_due w v pid p jobs (Going s a way) e here = (here.0, λ w' p' same quiet. (quiet, here.1 ∙ ap (λ q. suc (length (v.kept q))) (sym same)))
@@ -137,7 +138,8 @@ say_ends (Heard said reply) line e = inl (reply, ap (λ l. Heard l reply) (say_i
 say_ends (Fell r) line e = inr (ap Fell e)
 say_ends c line e = absurd (cc e)
 
--- After a sync, the journal has the lines that were kept, followed by the lines of the written appends.
+-- After a sync, the journal has the lines that were kept, followed by the lines of the written
+-- appends.
 synced_lines : (log : Log) (texts : List (List ℕ)) (more : List ℕ) → log.rest ≡ texts → lines_in texts ≡ more → lines_in (log.kept ++ log.rest) ≡ lines_in log.kept ++ more
 synced_lines log texts more rest lines = lines_in_both log.kept log.rest ∙ ap (λ ls. lines_in log.kept ++ ls) (ap lines_in rest ∙ lines)
 

@@ -39,11 +39,13 @@ use Rattle.amo_program_safety.proofs.Working.{settled_quiet, outcome_owes, out_o
 
 -- ---- the entries of an append
 
--- The entry is true in this site: an attempt that it opens is opened, and an attempt that it answers is settled.
+-- The entry is true in this site: an attempt that it opens is opened, and an attempt that it
+-- answers is settled.
 abbrev pub IsSo : Site → (q : ℕ) → Entry → Type 0
 IsSo v q entry = OpensOpened v q entry × AnswersSettled v q entry
 
--- Each entry of this text is true in this site: an attempt that it opens is opened, and an attempt that it answers is settled.
+-- Each entry of this text is true in this site: an attempt that it opens is opened, and an attempt
+-- that it answers is settled.
 pub record Tells (v : Site) (q : ℕ) (text : List ℕ) : Type 0 where
   pub opened : (s : ℕ) → IsOneOf (entries_of (append_in text)) (Answered s NotBegun) → IsOpened v q s
   pub settled : (s : ℕ) (c : Outcome) → IsOneOf (entries_of (append_in text)) (Answered s c) → Settled v q s

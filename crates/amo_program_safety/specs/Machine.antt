@@ -1,5 +1,5 @@
--- A machine: a world, with the processes of operators' commands and the locks that these commands try. It also has the attempts that are left with
--- runners or commands.
+-- A machine: a world, with the processes of operators' commands and the locks that these commands
+-- try. It also has the attempts that are left with runners or commands.
 use Rattle.std.specs.Prelude.{ℕ, true, false, List, [], ◌∷◌, ◌++◌, ◌==◌, ◌&&◌, Option, Some, None, if◌then◌else◌}
 use Rattle.amo_clearance_safety.specs.Model.{Handing, with_at}
 use Rattle.amo_host.specs.declared.model.LogFile.{LogFile}
@@ -31,7 +31,8 @@ pub record Machine : Type 0 where
   -- The attempts whose commands were started, as long as something of the command is left on this machine.
   pub running : List Handing
 
--- A step: the next thing that happens on a machine. Operators' commands are given by their process ids.
+-- A step: the next thing that happens on a machine. Operators' commands are given by their process
+-- ids.
 pub data Step : Type 0 where
   -- This event happens to workers, to runners or to requests.
   Happens : Event → Step
@@ -68,14 +69,16 @@ logs_by logs (HasPutDoubt attempt time) = with_log logs (JournalFile attempt.wor
 logs_by logs (HasPutAnswer f) = with_log logs Answers (synced (logs Answers))
 logs_by logs c = logs
 
--- For each worker, the command that has the lock on the worker's journal, after a call of this command.
+-- For each worker, the command that has the lock on the worker's journal, after a call of this
+-- command.
 abbrev pub held_by : (ℕ → Option ℕ) → (process : ℕ) → Call → ℕ → Option ℕ
 held_by held process (Tried (Journal worker) true) = with_at held worker (Some process)
 held_by held process (HasUnlocked worker) = with_at held worker (freed (held worker) process)
 held_by held process HasUnlockedAll = λ worker. freed (held worker) process
 held_by held process c = held
 
--- The machine after a call of this operator's command. If no such command lives, the machine stays as it is.
+-- The machine after a call of this operator's command. If no such command lives, the machine stays
+-- as it is.
 abbrev pub called : Machine → (process : ℕ) → Option Operator → Call → Machine
 called m process None c = m
 called m process (Some o) c = record m {
@@ -84,7 +87,8 @@ called m process (Some o) c = record m {
   held = held_by m.held process c;
 }
 
--- The machine after this operator's command has written the append of a request. If no such command lives, the machine stays as it is.
+-- The machine after this operator's command has written the append of a request. If no such command
+-- lives, the machine stays as it is.
 abbrev pub has_recorded : Machine → (process : ℕ) → Option Operator → Request → Machine
 has_recorded m process None r = m
 has_recorded m process (Some o) r = record m {
@@ -98,7 +102,8 @@ waiting_after w waiting (HandsOver process serial line text) = handing_of (w.pro
 waiting_after w waiting (Stops left) = []
 waiting_after w waiting e = waiting
 
--- The machine after an event. If the machine stops, all operators' commands, all runners and all commands of attempts are gone.
+-- The machine after an event. If the machine stops, all operators' commands, all runners and all
+-- commands of attempts are gone.
 abbrev pub happened : Machine → Event → Machine
 happened m (Stops left) = record m {
   world = world_after m.world (Stops left);

@@ -1,4 +1,5 @@
--- The runs of a world. They are limited by the protocol of the processes, and by rules for the kernel, the disk, the runners and the operators.
+-- The runs of a world. They are limited by the protocol of the processes, and by rules for the
+-- kernel, the disk, the runners and the operators.
 use Rattle.std.specs.Prelude.{◌≡◌, ⊤, ℕ, ◌≤◌, ◌<◌, ◌^◌, true, List, [], ◌∷◌, ◌++◌, take, Option, Some, None}
 use Rattle.amo_clearance_safety.specs.Model.{Handing, IsOneOf, line_of}
 use Rattle.amo_driver.specs.Stage.{Stage, Clearing, Performing}
@@ -24,7 +25,8 @@ use Rattle.amo_program_safety.specs.World.{Log, Process, World, Event, Starts, W
 
 -- ---- the kernel and the disk
 
--- A read of this log may give these texts: all kept appends, followed by the first `more` of the other appends, for any number `more`.
+-- A read of this log may give these texts: all kept appends, followed by the first `more` of the
+-- other appends, for any number `more`.
 abbrev pub AreRead : Log → List (List ℕ) → Type 0
 AreRead log texts = (more : ℕ) × (texts ≡ log.kept ++ take more log.rest)
 
@@ -44,8 +46,9 @@ abbrev pub IsWritten : (owed : Option Entry) → (writes : Option Request) → T
 IsWritten None writes = ⊤
 IsWritten (Some entry) writes = writes ≡ Some Pay
 
--- The results that a call of a process may have. A process gets the lock on a journal only if no process has that lock. The texts that a process has
--- read of a log, followed by the new texts, are a read of that log. A process learns that its append is on the disk only after the append was
+-- The results that a call of a process may have. A process gets the lock on a journal only if no
+-- process has that lock. The texts that a process has read of a log, followed by the new texts, are
+-- a read of that log. A process learns that its append is on the disk only after the append was
 -- written.
 abbrev pub KernelGives : World → Process → Call → Type 0
 KernelGives w p (Tried (Guard worker) hold true) = w.guard worker ≡ None
@@ -56,7 +59,8 @@ KernelGives w p (HasPut entry) = p.writes ≡ Some (Put entry)
 KernelGives w p HasPaid = IsWritten p.owed p.writes
 KernelGives w p c = ⊤
 
--- A call with the request r may end. If the process has written the append of a request in a call that has not ended, this request is r.
+-- A call with the request r may end. If the process has written the append of a request in a call
+-- that has not ended, this request is r.
 abbrev pub IsItsCall : (writes : Option Request) → Request → Type 0
 IsItsCall None r = ⊤
 IsItsCall (Some written) r = written ≡ r
@@ -67,12 +71,14 @@ IsItsCall (Some written) r = written ≡ r
 abbrev pub IsNamed : (worker serial : ℕ) → Handing → Type 0
 IsNamed worker serial h = (h.worker ≡ worker) × (h.serial ≡ serial)
 
--- Nothing of the attempt is left: no runner has it, no command of it runs, and no request of it is under way. The attempt has not performed its line.
+-- Nothing of the attempt is left: no runner has it, no command of it runs, and no request of it is
+-- under way. The attempt has not performed its line.
 pub record IsUntouched (w : World) (worker serial : ℕ) : Type 0 where
   pub not_alive : (h : Handing) → IsOneOf w.alive h → IsNamed worker serial h → ⊥
   pub not_performed : (h : Handing) → IsOneOf w.performed h → IsNamed worker serial h → ⊥
 
--- A runner replies that an attempt was not started only if nothing of the attempt is left or under way, and the attempt has not performed its line.
+-- A runner replies that an attempt was not started only if nothing of the attempt is left or under
+-- way, and the attempt has not performed its line.
 abbrev pub RunnerMayReply : World → (worker : ℕ) → (reply : Option (List ℕ)) → Type 0
 RunnerMayReply w worker reply = (serial : ℕ) (way : Way) → reply_heard reply ≡ Answered serial Unbegun way → IsUntouched w worker serial
 
@@ -81,7 +87,8 @@ abbrev pub RunnerGives : World → (worker : ℕ) → Call → Type 0
 RunnerGives w worker (Heard line reply) = RunnerMayReply w worker reply
 RunnerGives w worker c = ⊤
 
--- No attempt of this worker and this serial number was handed over before. We assume that the runner receives each request to perform only once.
+-- No attempt of this worker and this serial number was handed over before. We assume that the
+-- runner receives each request to perform only once.
 abbrev pub IsFirst : World → (worker serial : ℕ) → Type 0
 IsFirst w worker serial = (h : Handing) → IsOneOf w.handed h → IsNamed worker serial h → ⊥
 
@@ -93,14 +100,16 @@ held_at (Clearing serial a job) = Some serial
 held_at (Performing serial a job) = Some serial
 held_at stage = None
 
--- The serial number of the attempt that a process may still hand over in this phase, if there is one.
+-- The serial number of the attempt that a process may still hand over in this phase, if there is
+-- one.
 abbrev pub held_in : Phase → Option ℕ
 held_in (Works me jobs stage owes logs) = held_at stage
 held_in (Clears me jobs serial a job logs left) = Some serial
 held_in phase = None
 
--- The attempt is over, and may be answered with `not-done`. Its intent is kept on the disk. A process that has the attempt in hand has handed it
--- over, or has written an append in a call that has not ended. In that append the process gives the attempt up, as not started. Nothing of the
+-- The attempt is over, and may be answered with `not-done`. Its intent is kept on the disk. A
+-- process that has the attempt in hand has handed it over, or has written an append in a call that
+-- has not ended. In that append the process gives the attempt up, as not started. Nothing of the
 -- attempt is left or under way, and the attempt has not performed its line.
 pub record IsOver (w : World) (worker serial : ℕ) : Type 0 where
   pub kept : (line : ℕ) × (line_of (lines_in (w.logs (Journal worker)).kept) serial ≡ Some line)
@@ -123,8 +132,8 @@ abbrev pub IsUnlocked : World → LogFile → Type 0
 IsUnlocked w Answers = ⊤
 IsUnlocked w (Journal worker) = w.guard worker ≡ None
 
--- This event may come next in this world. It keeps the protocol of the processes, and the rules for the kernel, the disk, the runners and the
--- operators.
+-- This event may come next in this world. It keeps the protocol of the processes, and the rules for
+-- the kernel, the disk, the runners and the operators.
 abbrev pub MayFollow : World → Event → Type 0
 MayFollow w (Starts process worker) = (w.process process ≡ None) × (1 ≤ worker) × (worker ≤ MAX_WORKERS)
 MayFollow w (Writes process r) =

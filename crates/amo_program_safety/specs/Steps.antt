@@ -30,19 +30,23 @@ IsOfNoCommand (Resolves f) = ⊥
 IsOfNoCommand (Recovers log more) = ⊥
 IsOfNoCommand e = ⊤
 
--- An operator answers `not-done` only if nothing of the attempt is left or under way, and the attempt has not performed its line.
+-- An operator answers `not-done` only if nothing of the attempt is left or under way, and the
+-- attempt has not performed its line.
 abbrev pub IsTruthful : Machine → Finding → Type 0
 IsTruthful m f = f.verdict ≡ NotDone → IsUntouched m.world f.worker f.serial
 
--- A command may append a doubt or a truthful answer. The numbers have at most 64 bits, as the types of the code ensure.
+-- A command may append a doubt or a truthful answer. The numbers have at most 64 bits, as the types
+-- of the code ensure.
 abbrev pub MayRecord : Machine → Request → Type 0
 MayRecord m (PutDoubt attempt time) = (attempt.serial < 2 ^ 64) × (time < 2 ^ 64)
 MayRecord m (PutAnswer f) = FitsFinding f × IsTruthful m f
 MayRecord m r = ⊥
 
--- The results that a call of an operator's command may have. The command gets the lock on a journal only if no process has that lock. It gets the
--- lock of a runner only if no command has that lock and the runner has no attempt whose command it may still start. It gets the lock of an attempt's
--- command only if nothing of that command is left on this machine. It learns that its append is on the disk only after the append was written.
+-- The results that a call of an operator's command may have. The command gets the lock on a journal
+-- only if no process has that lock. It gets the lock of a runner only if no command has that lock
+-- and the runner has no attempt whose command it may still start. It gets the lock of an attempt's
+-- command only if nothing of that command is left on this machine. It learns that its append is on
+-- the disk only after the append was written.
 abbrev pub MachineGives : Machine → Operator → Call → Type 0
 MachineGives m o (Tried (Journal worker) true) = (m.world.guard worker ≡ None) × (m.held worker ≡ None)
 MachineGives m o (Tried (Runner worker) true) = (h : Handing) → IsOneOf m.waiting h → h.worker ≡ worker → ⊥
@@ -53,7 +57,8 @@ MachineGives m o (HasPutDoubt attempt time) = o.writes ≡ Some (PutDoubt attemp
 MachineGives m o (HasPutAnswer f) = o.writes ≡ Some (PutAnswer f)
 MachineGives m o c = ⊤
 
--- A call with the request r may end. If the operator's command has written the append of a request in a call that has not ended, this request is r.
+-- A call with the request r may end. If the operator's command has written the append of a request
+-- in a call that has not ended, this request is r.
 abbrev pub IsItsCall : (writes : Option Request) → Request → Type 0
 IsItsCall None r = ⊤
 IsItsCall (Some written) r = written ≡ r
@@ -62,8 +67,8 @@ IsItsCall (Some written) r = written ≡ r
 abbrev pub MayRequest : Machine → (process : ℕ) → Operator → Request → Type 0
 MayRequest m process o r = (m.operator process ≡ Some o) × Allows o.phase r
 
--- This step may come next on this machine. It keeps the protocols of workers and operators' commands, and the rules for the kernel, the disk, the
--- runners and the operators.
+-- This step may come next on this machine. It keeps the protocols of workers and operators'
+-- commands, and the rules for the kernel, the disk, the runners and the operators.
 abbrev pub MayFollow : Machine → Step → Type 0
 MayFollow m (Happens e) = MayCome m.world e × LockIsFree m e × IsOfNoCommand e
 MayFollow m (Begins h) = IsOneOf m.waiting h
@@ -99,8 +104,8 @@ AreOfNoCommand (e ∷ es) = IsOfNoCommand e × AreOfNoCommand es
 
 -- ---- a rule for runners that only some theorems assume
 
--- A runner reports an outcome of an attempt only after the attempt has ended. Then the runner will not start the command of the attempt, and nothing
--- of that command is left on this machine.
+-- A runner reports an outcome of an attempt only after the attempt has ended. Then the runner will
+-- not start the command of the attempt, and nothing of that command is left on this machine.
 abbrev pub RunnerHasEnded : Machine → Event → Type 0
 RunnerHasEnded m (WorkerCalls process (Heard line reply)) =
     (p : Process) → m.world.process process ≡ Some p → (serial : ℕ) (result : JobResult) (way : Way) → reply_heard reply ≡ Answered serial result way

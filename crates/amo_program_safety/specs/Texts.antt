@@ -1,4 +1,5 @@
--- The entries in the appends of logs. Each append is read on its own, and a text that is not an append has no entries.
+-- The entries in the appends of logs. Each append is read on its own, and a text that is not an
+-- append has no entries.
 use Rattle.std.specs.Prelude.{ℕ, List, [], ◌∷◌, ◌++◌, Option, Some, None}
 use Rattle.amo_run_log.specs.declared.append.Append.{Append}
 use Rattle.amo_run_log.specs.declared.append.Append.TheVariants.{One, Two}

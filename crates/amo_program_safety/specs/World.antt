@@ -1,5 +1,6 @@
--- A world: one machine with the processes of the workers of one run. It has the phases of the processes, the logs on the disk, the locks on journals,
--- and the attempts that were handed over to runners.
+-- A world: one machine with the processes of the workers of one run. It has the phases of the
+-- processes, the logs on the disk, the locks on journals, and the attempts that were handed over to
+-- runners.
 use Rattle.std.specs.Prelude.{ℕ, ◌+◌, Bool, true, false, List, [], ◌∷◌, ◌++◌, take, drop, Option, Some, None, option_map, ◌==◌, if◌then◌else◌}
 use Rattle.amo_clearance_safety.specs.Model.{Handing, with_at}
 use Rattle.amo_host.specs.declared.model.LogFile.{LogFile}
@@ -36,7 +37,8 @@ pub record Process : Type 0 where
   -- The appends that the process has read of each log. A later read of the log goes on after them.
   pub read : LogFile → List (List ℕ)
 
--- The state of a run: its logs, the living processes of workers with their locks, and the attempts that were handed over.
+-- The state of a run: its logs, the living processes of workers with their locks, and the attempts
+-- that were handed over.
 pub record World : Type 0 where
   pub logs : LogFile → Log
   -- The living processes, by their process ids.
@@ -50,7 +52,8 @@ pub record World : Type 0 where
   -- The attempts by which lines were performed, the last one first.
   pub performed : List Handing
 
--- An event: the next thing that happens in a world. Processes are given by their process ids, and journals by the numbers of their workers.
+-- An event: the next thing that happens in a world. Processes are given by their process ids, and
+-- journals by the numbers of their workers.
 pub data Event : Type 0 where
   -- A process of this worker starts.
   Starts : (process worker : ℕ) → Event
@@ -97,7 +100,8 @@ abbrev pub with_append_if : Log → Option (List ℕ) → Log
 with_append_if log None = log
 with_append_if log (Some text) = with_append log text
 
--- The log after a recovery. The first `more` of the appends that were not kept are kept now, and the others are gone.
+-- The log after a recovery. The first `more` of the appends that were not kept are kept now, and
+-- the others are gone.
 abbrev pub recovered : Log → (more : ℕ) → Log
 recovered log more = record { kept = log.kept ++ take more log.rest; rest = [] }
 
@@ -115,8 +119,8 @@ text_by owed (Put entry) = Some (text_of_append (append_of owed entry))
 text_by owed Pay = owed_text owed
 text_by owed r = None
 
--- The journal of a process after a call. Recovery keeps the texts that it has read. A successful `Put` or `Pay` syncs the journal, but `Pay` syncs
--- nothing if no entry is owed.
+-- The journal of a process after a call. Recovery keeps the texts that it has read. A successful
+-- `Put` or `Pay` syncs the journal, but `Pay` syncs nothing if no entry is owed.
 abbrev pub journal_by : Log → (owed : Option Entry) → Call → Log
 journal_by log owed (Recovered last texts) = record { kept = texts; rest = [] }
 journal_by log owed (HasPut entry) = synced log
@@ -141,7 +145,8 @@ read_by read c = read
 abbrev pub process_by : Process → Call → Process
 process_by p c = record { worker = p.worker; phase = phase_after p.phase c; writes = None; owed = owed_by p.owed c; read = read_by p.read c }
 
--- For each worker, the process that has the lock on the worker's journal, after a call of this process.
+-- For each worker, the process that has the lock on the worker's journal, after a call of this
+-- process.
 abbrev pub guard_by : (ℕ → Option ℕ) → (process : ℕ) → Call → ℕ → Option ℕ
 guard_by guard process (Tried (Guard worker) hold true) = with_at guard worker (Some process)
 guard_by guard process c = guard
@@ -155,7 +160,8 @@ called w process (Some p) c = record w {
   guard = guard_by w.guard process c;
 }
 
--- The world after this process has written the append of a request. If no such process lives, the world stays as it is.
+-- The world after this process has written the append of a request. If no such process lives, the
+-- world stays as it is.
 abbrev pub written : World → (process : ℕ) → Option Process → Request → World
 written w process None r = w
 written w process (Some p) r = record w {
@@ -163,12 +169,14 @@ written w process (Some p) r = record w {
   process = with_at w.process process (Some (record p { writes = Some r }));
 }
 
--- The list of the attempt that a process hands over, with this serial number and line. The list is empty if the process doesn't live.
+-- The list of the attempt that a process hands over, with this serial number and line. The list is
+-- empty if the process doesn't live.
 abbrev pub handing_of : Option Process → (serial line : ℕ) → List Handing
 handing_of None serial line = []
 handing_of (Some p) serial line = record { worker = p.worker; serial = serial; line = line } ∷ []
 
--- The holder of a lock after this process has unlocked it or has died. Any other holder keeps the lock.
+-- The holder of a lock after this process has unlocked it or has died. Any other holder keeps the
+-- lock.
 abbrev pub freed : Option ℕ → (process : ℕ) → Option ℕ
 freed None process = None
 freed (Some holder) process = if holder == process then None else Some holder

@@ -50,7 +50,8 @@ abbrev pub number_heard : Option (List ℕ) → Option ℕ
 number_heard (Some line) = number_in line
 number_heard None = None
 
--- what a line says of a job: that it may be handed over (true), or that it is taken (false); any other line says nothing
+-- what a line says of a job: that it may be handed over (true), or that it is taken (false); any
+-- other line says nothing
 abbrev pub clear_in : List ℕ → Option Bool
 clear_in line = if bytes_eq line (codes "clear") then Some true else (if bytes_eq line (codes "taken") then Some false else None)
 

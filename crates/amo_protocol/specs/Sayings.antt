@@ -3,7 +3,8 @@ use Rattle.std.specs.Prelude.{◌≡◌, ℕ, List, [], ◌∷◌, ◌++◌, cod
 use Rattle.std.specs.Fmt.{decimal}
 use Rattle.amo_journal.specs.Texts.{IsOneLine}
 
--- a word, the serial number of an intent, the number of its line, and the text of it, one blank between each two; then a line feed
+-- a word, the serial number of an intent, the number of its line, and the text of it, one blank
+-- between each two; then a line feed
 abbrev pub job_line : List ℕ → ℕ → ℕ → List ℕ → List ℕ
 job_line word serial line text = word ++ (codes " " ++ (decimal serial ++ (codes " " ++ (decimal line ++ (codes " " ++ (text ++ 10 ∷ []))))))
 

@@ -1,4 +1,5 @@
--- The plan of what was read is the plan of what the source had, also where reading stopped at the limit.
+-- The plan of what was read is the plan of what the source had, also where reading stopped at the
+-- limit.
 use Rattle.std.proofs.Common.{◌≡◌, ℕ, ◌<◌, ◌≤◌, List, [], ◌++◌, length, Option, Some, None, Result, Ok, Err, refl, sym, ap, ◌∙◌, inl, inr, length-append, arith}
 use Rattle.std.specs.Prelude.{IfSome}
 use Rattle.std.specs.Io.KnownBytes.{Consumes, IsAtEnd}

@@ -20,7 +20,8 @@ WritesFrontOf is_of known old new = IfSome known (λ bytes. (text : List ℕ) ×
 abbrev pub IsTooMuch : Option (List ℕ) → Type 0
 IsTooMuch known = IfSome known (λ bytes. MOST_BYTES < length bytes)
 
--- A source with these bytes has no text, for this fault, which isn't out of memory: it has just some bytes that have none for it.
+-- A source with these bytes has no text, for this fault, which isn't out of memory: it has just
+-- some bytes that have none for it.
 pub record HasNoText (is_refused : List ℕ → PlanFault → Type 0) (f : PlanFault) (known : Option (List ℕ)) : Type 0 where
   pub bytes : List ℕ
   pub same : IfSome known (λ xs. xs ≡ bytes)

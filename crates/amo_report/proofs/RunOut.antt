@@ -1,5 +1,5 @@
--- A worker that goes on alone is gone in the end: each time it ends, or has claimed one job more, and there are only so
--- many.
+-- A worker that goes on alone is gone in the end: each time it ends, or has claimed one job more,
+-- and there are only so many.
 use Rattle.std.proofs.Common.{◌≡◌, ◌≢◌, ◌⊎◌, inl, inr, ⊎_elim, ℕ, zero, suc, ◌+◌, ◌≤◌, ◌<◌, length, Bool, true, false, sym, ap, ◌∙◌, subst, refl, arith}
 use Rattle.std.proofs.lemmas.Bool.{true≢false, cases_eq, cases_lt, or_cases}
 use Rattle.amo_sets.specs.Sets.{has}

@@ -79,7 +79,8 @@ pub after_lone_run_gone : (g : Givens) (p : ℕ) (r : LoneRun) → (process r.wo
 unfolding after_lone_run
 after_lone_run_gone g p r gone = ap (λ b. let x : LoneRun = if b then r else record { world = world_after_turns g r.world p (lone_turns g p (lone_bound g) r.world); most = max r.most (lone_turns g p (lone_bound g) r.world) } in x) gone
 
--- what holds of a run all along: its world is reached by so many moves, and no go took more turns than are enough
+-- what holds of a run all along: its world is reached by so many moves, and no go took more turns
+-- than are enough
 pub record IsUnderLimit (g : Givens) (moves : ℕ) (r : LoneRun) : Type 0 where
   pub reached : IsReached g moves r.world
   pub most : r.most ≤ lone_bound g

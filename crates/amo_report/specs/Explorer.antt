@@ -15,7 +15,8 @@ use Rattle.amo_render.specs.Happened.{is_end}
 use Rattle.amo_render.specs.Least.{numbers_from, least_of}
 use Rattle.amo_report.specs.Summary.{counts_part, verdict_part, least_line}
 
--- the worker of turn i, from 0, of schedule s: digit i of s, the lowest being digit 0, in the base of m workers
+-- the worker of turn i, from 0, of schedule s: digit i of s, the lowest being digit 0, in the base
+-- of m workers
 abbrev pub worker_at : ℕ → ℕ → ℕ → ℕ
 worker_at m s i = (s / m ^ i) % m + 1
 
@@ -24,8 +25,8 @@ abbrev pub schedule : ℕ → ℕ → ℕ → List Move
 schedule m s zero = []
 schedule m s (suc i) = schedule m s i ++ Turn (worker_at m s i) ∷ []
 
--- the world after schedule s of so many turns and the rounds of a plan, from the opening world; the plan's own
--- schedule has no part in it
+-- the world after schedule s of so many turns and the rounds of a plan, from the opening world; the
+-- plan's own schedule has no part in it
 abbrev pub explored_world : PlanSeen → ℕ → ℕ → World
 explored_world p turns s =
     world_of p.givens (schedule p.givens.workers s turns ++ rounds p.givens.workers p.rounds)
@@ -47,7 +48,8 @@ schedule_line s history judged =
 abbrev pub explored_line : PlanSeen → ℕ → ℕ → List ℕ
 explored_line p turns s = schedule_line s (explored_world p turns s).history (explored_verdict p turns s)
 
--- a line for each of so many schedules of so many turns, from the first on, and the least number of performances
+-- a line for each of so many schedules of so many turns, from the first on, and the least number of
+-- performances
 abbrev pub explore_of : PlanSeen → ℕ → ℕ → ℕ → List ℕ
 explore_of p first count turns =
     flat_map (explored_line p turns) (numbers_from first count) ++ least_line (least_of (map (explored_dones p turns) (numbers_from first count)))

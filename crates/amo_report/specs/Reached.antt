@@ -6,7 +6,8 @@ use Rattle.amo_givens.specs.declared.givens.Givens.{Givens}
 use Rattle.amo_kk.specs.declared.model.World.{World}
 use Rattle.amo_report.specs.declared.stops.TheConstants.{MOST_STOPS}
 
--- the most moves after which a worker is run alone to a claim or its end: a count of 64 bits has room for many more turns
+-- the most moves after which a worker is run alone to a claim or its end: a count of 64 bits has
+-- room for many more turns
 abbrev pub most_before_a_claim : ℕ
 most_before_a_claim = 1000000000
 

@@ -12,7 +12,8 @@ use Rattle.amo_render.specs.Tallies.{performed_line, unclaimed_line}
 unfoldable pub happened_lines : List Event → List ℕ → List ℕ
 happened_lines history turns = event_lines 1 history ++ worker_lines history 1 turns
 
--- the lines that close a report say what came of it: the results, how much was performed, and what nobody has claimed
+-- the lines that close a report say what came of it: the results, how much was performed, and what
+-- nobody has claimed
 unfoldable pub closing_lines : PlanSeen → List Event → List ℕ
 closing_lines p history =
     done_results p.block p.names p.tasks history

@@ -1,4 +1,5 @@
--- The text of stops: what becomes of a schedule that is cut off after each of its moves, a line for each.
+-- The text of stops: what becomes of a schedule that is cut off after each of its moves, a line for
+-- each.
 use Rattle.std.specs.Prelude.{ℕ, zero, suc, ◌+◌, max, List, ◌++◌, length, map, take, codes, nat_le, Result, Ok, if◌then◌else◌}
 use Rattle.std.specs.Fmt.{decimal}
 use Rattle.std.specs.List.{flat_map}
@@ -79,10 +80,12 @@ stopped_line plan p k = stop_line k (stopped plan p k).world.history (stopped pl
 abbrev pub all_stops : PlanSeen → List ℕ
 all_stops plan = numbers_from 0 (length plan.moves + 1)
 
--- a line for each stop of p, and the least number of performances; the plan's rounds have no part in it
+-- a line for each stop of p, and the least number of performances; the plan's rounds have no part
+-- in it
 abbrev pub stops_of : PlanSeen → ℕ → List ℕ
 stops_of plan p = flat_map (stopped_line plan p) (all_stops plan) ++ least_line (least_of (map (stopped_dones plan p) (all_stops plan)))
 
--- the same, where p is a worker and there are not too many moves; 0 stands in the place of a word of the schedule
+-- the same, where p is a worker and there are not too many moves; 0 stands in the place of a word
+-- of the schedule
 unfoldable pub stops_in : PlanSeen → ℕ → Result (List ℕ) PlanFault
 stops_in plan p = unless (nat_le p plan.givens.workers) (NoSuchWorker 0) (unless (nat_le (length plan.moves) MOST_STOPS) TooLong (Ok (stops_of plan p)))

@@ -1,4 +1,5 @@
--- A job may be performed in one stretch alone: by one worker, between its claim and its filing or the first return.
+-- A job may be performed in one stretch alone: by one worker, between its claim and its filing or
+-- the first return.
 use Rattle.std.proofs.Common.{◌≡◌, ◌≢◌, ◌⊎◌, inl, inr, ⊎_elim, ℕ, ◌≤◌, Bool, true, false, ◌&&◌, ◌||◌, List, [], ◌∷◌, ◌++◌, refl, sym, ap, ◌∙◌, subst, arith}
 use Rattle.std.specs.Prelude.{if◌then◌else◌, ◌==◌}
 use Rattle.std.proofs.lemmas.Bool.{eqb-true, true≢false, or_left, or_right, eq-eqb, cases_eq}

@@ -1,4 +1,5 @@
--- Every tale is lawful, and its entries are a story of the object, whose state agrees with the workers.
+-- Every tale is lawful, and its entries are a story of the object, whose state agrees with the
+-- workers.
 use Rattle.std.proofs.Common.{◌≡◌, ◌≢◌, ⊎_elim, ℕ, Bool, true, false, List, [], ◌∷◌, ◌++◌, length, refl, sym, ap, ◌∙◌, subst, arith, append-nil}
 use Rattle.std.specs.Prelude.{if◌then◌else◌, nat_le, ◌==◌}
 use Rattle.std.proofs.lemmas.Bool.{cases_eq, and_from, and_parts, eq-eqb, ne_eqb, leb-true}

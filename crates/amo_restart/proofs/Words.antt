@@ -1,4 +1,5 @@
--- A return touches no shared word, needs its own words alone, and may stand at any moment between the moves of others.
+-- A return touches no shared word, needs its own words alone, and may stand at any moment between
+-- the moves of others.
 use Rattle.std.proofs.Common.{◌≡◌, ◌≢◌, ⊎_elim, ℕ, zero, suc, ◌≤◌, Bool, true, false, List, [], ◌∷◌, ◌++◌, length, get_or, refl, sym, ap, ◌∙◌, subst, arith}
 use Rattle.std.specs.Prelude.{if◌then◌else◌, nat_le}
 use Rattle.std.proofs.lemmas.Bool.{cases_eq, and_parts, leb-true}

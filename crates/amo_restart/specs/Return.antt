@@ -31,7 +31,8 @@ entries_in [] = 0
 entries_in (zero ∷ xs) = entries_in xs
 entries_in (suc j ∷ xs) = suc (entries_in xs)
 
--- how many jobs the shared words show as filed: the entries of all rows, which come after all other words
+-- how many jobs the shared words show as filed: the entries of all rows, which come after all other
+-- words
 abbrev pub filed_in : Givens → List ℕ → ℕ
 filed_in g words = entries_in (drop (2 * g.workers + 1) words)
 

@@ -65,7 +65,8 @@ filed_jobs xs = done_jobs (events_in xs)
 abbrev pub sure_jobs : List Entry → List ℕ
 sure_jobs xs = without_all (doubted_jobs xs) (filed_jobs xs)
 
--- the job that p may perform after this event, h being the one before it: what it claimed, until that is filed
+-- the job that p may perform after this event, h being the one before it: what it claimed, until
+-- that is filed
 abbrev pub may_after : ℕ → ℕ → Event → ℕ
 may_after p h (Claimed q j) = if q == p then j else h
 may_after p h (Done q j) = if q == p then 0 else h
@@ -73,7 +74,8 @@ may_after p h (Ended q) = h
 may_after p h (Halted q) = h
 may_after p h (Left q) = h
 
--- the job that p may perform after these entries, or 0, h being the one before them: a return leaves none
+-- the job that p may perform after these entries, or 0, h being the one before them: a return
+-- leaves none
 abbrev pub may_perform : ℕ → ℕ → List Entry → ℕ
 may_perform p h [] = h
 may_perform p h (Shown e ∷ xs) = may_perform p (may_after p h e) xs

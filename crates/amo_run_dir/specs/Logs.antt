@@ -16,7 +16,8 @@ IsKept (Some count) first checksums = is_kept (counted_view count) first checksu
 abbrev pub Keeps : Option Count → List ℕ → List (List ℕ) → Type 0
 Keeps counted first records = IsKept counted first (checksums_from first records)
 
--- The reason is true of these checksums: there are fewer than were counted, or the last of those that were counted is another one.
+-- The reason is true of these checksums: there are fewer than were counted, or the last of those
+-- that were counted is another one.
 abbrev pub IsWhyLost : Unread → Option Count → List ℕ → List (List ℕ) → Type 0
 IsWhyLost Memory counted first checksums = ⊥
 IsWhyLost (Damaged number kind) counted first checksums = ⊥

@@ -3,7 +3,8 @@ use Rattle.std.specs.Prelude.{ℕ}
 use Rattle.amo_run_dir.specs.declared.error.Fault.{Fault}
 use Rattle.amo_run_dir.specs.declared.error.Fault.TheVariants.{Memory, List, Changed, Entry, Damaged, Lost, DamagedRun, Refused, Answer, Early, Untimed, NoAnswerOf, Missing, Empty, NoRun, NoId, OldRun, OtherId, HasId, NotNew, Forgotten, Left, Closed, NoSuchNumber, NoWay, Write, Journal, Read, Later, NoAnswer, Door}
 
--- 65: a file's text is refused, or a file that a run has isn't there, or another run's, 69: the partner ended it, 70: no worker goes on, 71: no memory, 73: a file can't be written, 74: one
+-- 65: a file's text is refused, or a file that a run has isn't there, or another run's, 69: the
+-- partner ended it, 70: no worker goes on, 71: no memory, 73: a file can't be written, 74: one
 -- can't be read, 75: come back later, 76: no answer, 77: the folder is refused
 abbrev pub status_of : Fault → ℕ
 status_of (List line why) = 65

@@ -13,7 +13,8 @@ pub record CountView : Type 0 where
 abbrev pub counted : Count → CountView
 counted c = record { appends = c.appends; checksum = c.checksum.digits }
 
--- the checksum after so many appends of a journal with these checksums; after no append it is the first checksum
+-- the checksum after so many appends of a journal with these checksums; after no append it is the
+-- first checksum
 abbrev pub checksum_at : List ℕ → List (List ℕ) → ℕ → List ℕ
 checksum_at first checksums appends = slice_index_or (first ∷ checksums) appends []
 

@@ -1,4 +1,5 @@
--- The front part of a round's record, as a text: its head, and the lines that are its jobs, in order.
+-- The front part of a round's record, as a text: its head, and the lines that are its jobs, in
+-- order.
 use Rattle.std.specs.Prelude.{◌≡◌, ◌≢◌, ◌<◌, ◌^◌, ℕ, Bool, true, ◌&&◌, ◌==◌, nat_lt, nat_le, List, [], ◌∷◌, ◌++◌, codes, length, map, take, drop, Option, Some, None, option_and_then, option_map, if◌then◌else◌}
 use Rattle.std.specs.Fmt.{decimal}
 use Rattle.std.specs.List.{AllByRecursion}
@@ -39,8 +40,9 @@ abbrev pub ascends_from : ℕ → List ℕ → Bool
 ascends_from low [] = true
 ascends_from low (line ∷ lines) = nat_lt low line && ascends_from line lines
 
--- there are as many jobs as lines, at most `MAX_JOBS`, each of another line than those before; they are shared by at least one of at most
--- `MAX_WORKERS` workers, who stop at a threshold of at least their number and at most `MAX_BETA`; and one of them was the first
+-- there are as many jobs as lines, at most `MAX_JOBS`, each of another line than those before; they
+-- are shared by at least one of at most `MAX_WORKERS` workers, who stop at a threshold of at least
+-- their number and at most `MAX_BETA`; and one of them was the first
 abbrev pub is_sound : RecordView → Bool
 is_sound r =
     ((r.givens.jobs == length r.lines) && (nat_le r.givens.jobs MAX_JOBS && ascends_from 0 r.lines))

@@ -23,7 +23,8 @@ file_said f = record { header = said_by f.header; extents = map extent_said f.ex
 abbrev pub body_texts : RoundFileView → List (List ℕ)
 body_texts f = texts_of f.header ++ map text_of_extent f.extents
 
--- the line that seals a text: the checksum that follows this one at an append with the text, and a line feed
+-- the line that seals a text: the checksum that follows this one at an append with the text, and a
+-- line feed
 abbrev pub seal_line : List ℕ → List ℕ → List ℕ
 seal_line first body = next_checksum first body ++ 10 ∷ []
 

@@ -10,7 +10,8 @@ bound_of g = g.jobs - (g.beta + g.workers - 2)
 abbrev pub shared_by : ℕ → ℕ → ℕ
 shared_by jobs workers = min workers (jobs / 4 + 1)
 
--- the threshold of so many workers on these jobs: the one that was asked for where at most half of the jobs can be left then
+-- the threshold of so many workers on these jobs: the one that was asked for where at most half of
+-- the jobs can be left then
 abbrev pub threshold : ℕ → ℕ → ℕ → ℕ
 threshold jobs shared beta = if nat_lt 1 shared && nat_le (2 * (beta + shared - 2)) jobs then max beta shared else shared
 

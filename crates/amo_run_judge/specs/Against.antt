@@ -8,7 +8,8 @@ use Rattle.amo_run_judge.specs.declared.reason.Reason.TheVariants.{HasProcess, N
 use Rattle.amo_run_judge.specs.declared.reason.Verdict.{Verdict}
 use Rattle.amo_run_judge.specs.declared.reason.Verdict.TheVariants.{Run, NoRun}
 
--- the process has an acknowledged intent, of this line under this serial number, which it has not handed over
+-- the process has an acknowledged intent, of this line under this serial number, which it has not
+-- handed over
 abbrev pub Holds : Site → ℕ → ℕ → ℕ → Type 0
 Holds w p serial line = (seen : List ℕ) × (w.stage p ≡ Clearing serial line seen)
 
@@ -16,7 +17,8 @@ Holds w p serial line = (seen : List ℕ) × (w.stage p ≡ Clearing serial line
 abbrev pub HoldsNothing : Site → ℕ → Type 0
 HoldsNothing w p = (serial line : ℕ) → Holds w p serial line → ⊥
 
--- the attempt of this serial number in the journal of q is at the line, is another one than `own`, and is not opened
+-- the attempt of this serial number in the journal of q is at the line, is another one than `own`,
+-- and is not opened
 pub record Stands (w : Site) (q serial : ℕ) (own : Attempt) (line : ℕ) : Type 0 where
   pub at_line : line_of (w.kept q) serial ≡ Some line
   pub other : record { worker = q; serial = serial } ≡ own → ⊥

@@ -24,7 +24,8 @@ holds_serial (Clearing held line) serial = held == serial
 abbrev pub is_other : Attempt → ℕ → ℕ → Bool
 is_other own worker serial = not (own.worker == worker) || not (own.serial == serial)
 
--- the intent, of this serial number in the journal of this worker, stands against the attempt at the line
+-- the intent, of this serial number in the journal of this worker, stands against the attempt at
+-- the line
 abbrev pub stands : ℕ → Attempt → ℕ → ℕ → Intent → Bool
 stands worker own line serial intent = (intent.line == line) && (not intent.opened && is_other own worker serial)
 
@@ -65,7 +66,8 @@ look_reason worker other (Clearing serial line) kept =
 abbrev pub has_seen : List ℕ → ℕ → Bool
 has_seen seen other = list_any (λ q. q == other) seen
 
--- this is why the process, which has looked at these journals since its intent, may not hand over, or it may
+-- this is why the process, which has looked at these journals since its intent, may not hand over,
+-- or it may
 abbrev pub IsUnseen : List ℕ → Option Reason → Type 0
 IsUnseen seen None = (other : ℕ) → other ≤ MAX_WORKERS → has_seen seen other ≡ true
 IsUnseen seen (Some (NotSeen other)) = (other ≤ MAX_WORKERS) × (has_seen seen other ≡ false)

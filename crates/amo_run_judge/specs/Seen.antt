@@ -78,7 +78,8 @@ abbrev pub IsReason : Site → Event → Option Reason → Type 0
 IsReason w e None = MayFollow Clearance MAX_WORKERS w e
 IsReason w e (Some reason) = Against w e reason
 
--- the state shows the site after the event, if the one before shows a site after which the event may come
+-- the state shows the site after the event, if the one before shows a site after which the event
+-- may come
 abbrev pub Follows : SiteKept → Event → SiteKept → Type 0
 Follows s e t = (w : Site) → Shows s w → MayFollow Clearance MAX_WORKERS w e → Shows t (site_after w e)
 

@@ -63,7 +63,8 @@ reads_on read texts i xs text x within stands so_far says =
 some_none : {A : Type 0} {x : A} → Some x ≡ None → ⊥
 some_none e = cc
 
--- those before this index were read, and the one that stands there says nothing: by its number it is the first
+-- those before this index were read, and the one that stands there says nothing: by its number it
+-- is the first
 pub stops_at : {A : Type 0} (read : List ℕ → Option A) (texts : List (Vec ℕ Global)) (i count : ℕ) (xs : List A) (text : Vec ℕ Global) → i < length texts → text ≡ get_or texts i text
     → read_all read (map bytes_of (take i texts)) ≡ Some xs → count ≡ length xs → read text.items ≡ None
     → SaysNothing read (map bytes_of texts) (Refused (count + 1))

@@ -1,4 +1,5 @@
--- Words in a text, and two or three numbers: what is printed is read, and what is read was printed so.
+-- Words in a text, and two or three numbers: what is printed is read, and what is read was printed
+-- so.
 use Rattle.std.proofs.Common.{◌≡◌, ◌≢◌, ◌⊎◌, inl, inr, ℕ, ◌+◌, ◌^◌, ◌<◌, Bool, true, false, cond, List, [], ◌∷◌, ◌++◌, length, get_or, take, drop, Option, Some, None, refl, sym, ap, subst, ◌∙◌, arith, append_assoc, length-append}
 use Rattle.std.specs.Prelude.{nat_lt, not, ◌==◌, option_and_then}
 use Rattle.std.specs.Char.{digit_value}

@@ -35,9 +35,9 @@ abbrev pub IsFrom : Option AttemptId → ℕ → ℕ → Type 0
 IsFrom None worker serial = ⊥
 IsFrom (Some first) worker serial = IsBefore first worker serial → ⊥
 
--- A call that says whether it noted an entry of this worker has made `new` of the journals `old`. The
--- worker's journal has the entry, and the others are as before. Or the worker has no journal, or its
--- journal can't have the entry; then all are as before.
+-- A call that says whether it noted an entry of this worker has made `new` of the journals `old`.
+-- The worker's journal has the entry, and the others are as before. Or the worker has no journal,
+-- or its journal can't have the entry; then all are as before.
 abbrev pub NotesIn : ℕ → Bool → List (List Attempt) → ℕ → Entry → List (List Attempt) → Type 0
 NotesIn count true old worker entry new =
     (1 ≤ worker) × (es : List Attempt) × (next : List Attempt) × (slice_get old (worker - 1) ≡ Some es) × (noted count es entry ≡ Some next) × (new ≡ slice_set old (worker - 1) next)

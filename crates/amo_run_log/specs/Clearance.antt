@@ -1,4 +1,5 @@
--- When a line is clear for an attempt at it: each other attempt at the line, in all journals, is opened.
+-- When a line is clear for an attempt at it: each other attempt at the line, in all journals, is
+-- opened.
 use Rattle.std.specs.Prelude.{slice_get, ◌⊎◌, ◌≡◌, ◌≢◌, ◌≤◌, ◌<◌, ◌+◌, ◌-◌, ◌==◌, ◌&&◌, ◌||◌, not, ℕ, Bool, true, false, List, [], ◌∷◌, Some}
 use Rattle.amo_run_log.specs.declared.finding.Finding.{Finding}
 use Rattle.amo_run_log.specs.declared.journal.Attempt.{Attempt}
@@ -12,7 +13,8 @@ use Rattle.amo_run_log.specs.Open.{closes, reopens}
 abbrev pub IsOpened : List Finding → ℕ → ℕ → Attempt → Type 0
 IsOpened findings worker serial e = (reopens e.answer ≡ true) ⊎ (is_undone findings worker serial ≡ true)
 
--- these journals have this attempt at the line, in that worker's journal and with that serial number, both from 1
+-- these journals have this attempt at the line, in that worker's journal and with that serial
+-- number, both from 1
 abbrev pub IsAttempt : List (List Attempt) → ℕ → ℕ → ℕ → Attempt → Type 0
 IsAttempt journals line worker serial e =
     (1 ≤ worker) × (1 ≤ serial) × (es : List Attempt) × (slice_get journals (worker - 1) ≡ Some es) × (slice_get es (serial - 1) ≡ Some e) × (e.line ≡ line)
@@ -31,7 +33,8 @@ abbrev pub IsStanding : List Finding → List (List Attempt) → AttemptId → �
 IsStanding findings journals own line other =
     (e : Attempt) × IsAttempt journals line other.worker other.serial e × IsOther own other.worker other.serial × (IsOpened findings other.worker other.serial e → ⊥)
 
--- whether this attempt keeps the line from being clear for `own`: another attempt at the line that closes it
+-- whether this attempt keeps the line from being clear for `own`: another attempt at the line that
+-- closes it
 abbrev pub stands_against : List Finding → AttemptId → (line worker serial : ℕ) → Attempt → Bool
 stands_against findings own line worker serial e = closes findings worker serial e line && not ((worker == own.worker) && (serial == own.serial))
 
@@ -49,7 +52,8 @@ stands_in findings own line worker (es ∷ journals) = any_stands findings own l
 abbrev pub is_clear : List Finding → List (List Attempt) → AttemptId → (line : ℕ) → Bool
 is_clear findings journals own line = not (stands_in findings own line 1 journals)
 
--- an attempt of this worker and serial number comes before that one: in an earlier journal, or earlier in the same one
+-- an attempt of this worker and serial number comes before that one: in an earlier journal, or
+-- earlier in the same one
 abbrev pub IsBefore : AttemptId → ℕ → ℕ → Type 0
 IsBefore other worker serial = (worker < other.worker) ⊎ ((worker ≡ other.worker) × (serial < other.serial))
 

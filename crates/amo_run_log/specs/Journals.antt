@@ -1,5 +1,5 @@
--- A journal: its intents in order, each with its answer. Serial numbers count from 1 without a gap, an intent is of one of the
--- lines 1..count, and an answer goes to an intent that has none.
+-- A journal: its intents in order, each with its answer. Serial numbers count from 1 without a gap,
+-- an intent is of one of the lines 1..count, and an answer goes to an intent that has none.
 use Rattle.std.specs.Prelude.{◌≡◌, ◌≢◌, ◌≤◌, ◌+◌, ◌-◌, ℕ, zero, suc, Bool, true, false, ◌&&◌, nat_le, List, [], ◌∷◌, ◌++◌, ◌==◌, length, take, Option, Some, None, is_none, option_and_then, option_map, if◌then◌else◌}
 use Rattle.amo_run_log.specs.declared.entry.Outcome.{Outcome}
 use Rattle.amo_run_log.specs.declared.entry.Entry.{Entry}

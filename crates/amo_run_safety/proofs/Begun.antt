@@ -62,7 +62,8 @@ first_orderly = record {
 its_only : (k h : Handing) → IsOneOf (k ∷ []) h → k ≡ h
 its_only k h one = ⊎_elim (λ (e : k ≡ h). e) (λ none. absurd none) one
 
--- The commands that have sent a request or performed their line: after a request was sent, has arrived, or is lost.
+-- The commands that have sent a request or performed their line: after a request was sent, has
+-- arrived, or is lost.
 
 pub sent_one : (y : Yard) (k h : Handing) → IsOneOf ((y.sent ++ k ∷ []) ++ y.performed) h → IsOneOf (y.sent ++ y.performed) h ⊎ (k ≡ h)
 sent_one y k h one = ⊎_elim
@@ -278,8 +279,9 @@ begun_once actions may = all_different first_yard [] actions first_orderly tt ma
 
 -- what was performed is of different lines
 
--- Nobody has said of an intent that it wasn't done, if its request was sent or its line performed. No two lines that were performed are
--- the same, and a request that is under way has a line of its own.
+-- Nobody has said of an intent that it wasn't done, if its request was sent or its line performed.
+-- No two lines that were performed are the same, and a request that is under way has a line of its
+-- own.
 record IsSettled (y : Yard) (said : List (ℕ × ℕ)) : Type 0 where
   pub unsaid : (h : Handing) → IsOneOf (y.sent ++ y.performed) h → is_among said h.worker h.serial ≡ false
   pub apart : (h k : Handing) → IsOneOf y.sent h → IsOneOf (y.sent ++ y.performed) k → h.line ≡ k.line → (h.worker ≡ k.worker) × (h.serial ≡ k.serial)
@@ -486,8 +488,8 @@ orderly_all y said (a ∷ actions) orderly may =
     subst (IsOrderly (yard_after_all (yard_after y a) actions)) (append_assoc said (said_by y a) (said_from (yard_after y a) actions))
     (orderly_all (yard_after y a) (said ++ said_by y a) actions (orderly_after y said orderly a may.0) may.1)
 
--- once the intent was listed, no command of its line sends a request, and no other request arrives than was under way before, until
--- it is said that it wasn't begun or done
+-- once the intent was listed, no command of its line sends a request, and no other request arrives
+-- than was under way before, until it is said that it wasn't begun or done
 
 module _ (p n line : ℕ) (base : List Handing) where
   -- each request of its line that is under way was so before, or it was said

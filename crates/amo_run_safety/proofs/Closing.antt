@@ -1,4 +1,5 @@
--- In the round that can be joined, each intent that is read was tried there, unless it was said that it wasn't begun or done.
+-- In the round that can be joined, each intent that is read was tried there, unless it was said
+-- that it wasn't begun or done.
 use Rattle.std.proofs.Common.{◌≡◌, ◌⊎◌, inl, inr, ⊎_elim, ℕ, ◌+◌, ◌≤◌, true, false, List, [], ◌∷◌, ◌++◌, Option, Some, None, refl, sym, ap, ◌∙◌, subst, append_assoc}
 use Rattle.std.specs.Prelude.{⊤}
 use Rattle.std.proofs.lemmas.Bool.{true≢false}

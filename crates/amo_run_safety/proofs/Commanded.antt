@@ -1,4 +1,5 @@
--- The run of the example with its commands: the first begins and does nothing, the request of the second arrives.
+-- The run of the example with its commands: the first begins and does nothing, the request of the
+-- second arrives.
 use Rattle.std.proofs.Common.{◌≡◌, ℕ, Bool, true, false, List, [], ◌∷◌, ◌++◌, map, refl, sym, ap, ◌∙◌, subst, inl, arith}
 use Rattle.std.proofs.lemmas.Bool.{true≢false}
 use Rattle.amo_run_log.specs.declared.entry.Outcome.TheVariants.{Doubt as NotedDoubt}
@@ -82,7 +83,8 @@ at_last = Begins second_command ∷ Sends second_command ∷ Arrives second_comm
 abbrev pub then_again : (last : List Action) → List Action
 then_again last = Happens (Says undone) ∷ map Happens again ++ last
 
--- The first begins, and does nothing. The second sends its request and ends, the machine stops, and the request arrives.
+-- The first begins, and does nothing. The second sends its request and ends, the machine stops, and
+-- the request arrives.
 
 abbrev late_arrival : List Action
 late_arrival = Begins second_command ∷ Sends second_command ∷ Ends second_command ∷ Happens (Stops (λ p. 0) 0) ∷ Arrives second_command ∷ []

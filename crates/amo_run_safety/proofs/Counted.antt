@@ -1,4 +1,5 @@
--- The serial numbers of a journal's intents count on without a gap: by the number of those that there are.
+-- The serial numbers of a journal's intents count on without a gap: by the number of those that
+-- there are.
 use Rattle.std.proofs.Common.{◌≡◌, ℕ, zero, suc, ◌+◌, ◌<◌, ◌≤◌, Bool, true, false, List, [], ◌∷◌, ◌++◌, length, Option, Some, None, refl, sym, ap, ◌∙◌, subst, arith}
 use Rattle.std.specs.List.{AllByRecursion}
 use Rattle.std.specs.Prelude.{⊤, is_none, option_map, ◌==◌, ◌&&◌, if◌then◌else◌}
@@ -68,8 +69,8 @@ journal_size lines es (x ∷ xs) next h = option_and_then_some (λ mid. journal_
 pub size_is : (lines : ℕ) (xs : List Entry) (es : List Attempt) → journal_of lines xs ≡ Some es → length es ≡ intents xs
 size_is lines xs es h = let size = journal_size lines [] xs es h in omega (arith, size)
 
--- In a round the next serial number is one more than there are intents, and that of the intent that is being dealt with is their
--- number. There nobody asks for what former processes have left.
+-- In a round the next serial number is one more than there are intents, and that of the intent that
+-- is being dealt with is their number. There nobody asks for what former processes have left.
 abbrev pub IsCounted : ℕ → Stage → Type 0
 IsCounted k (Going n a way) = n ≡ k + 1
 IsCounted k (Finding n a j) = n ≡ k + 1
@@ -159,7 +160,8 @@ module _ (k : ℕ) where
   pub counted_grown : (xs : List Entry) (s : Stage) → IsCounted (k + intents xs) s → (ys : List Entry) → intents ys ≡ k → IsCounted (intents (ys ++ xs)) s
   counted_grown xs s h ys is = subst (λ x. IsCounted x s) (ap (λ x. x + intents xs) (sym is) ∙ sym (intents-append ys xs)) h
 
--- The next intent that is handed over, or of which it is asked whether it may be, has a greater number than this one.
+-- The next intent that is handed over, or of which it is asked whether it may be, has a greater
+-- number than this one.
 abbrev pub IsBehind : ℕ → Stage → Type 0
 IsBehind m (Clearing n a j) = m < n
 IsBehind m (Performing n a j) = m < n

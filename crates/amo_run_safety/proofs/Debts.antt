@@ -1,4 +1,5 @@
--- A process owes nothing while it asks for an intent's clearance, hands it over or notes its outcome. So it owes one outcome at most.
+-- A process owes nothing while it asks for an intent's clearance, hands it over or notes its
+-- outcome. So it owes one outcome at most.
 use Rattle.std.proofs.Common.{◌≡◌, ⊎_elim, ℕ, ◌+◌, ◌≤◌, Bool, true, false, List, [], ◌∷◌, ◌++◌, length, Option, Some, None, refl, sym, ap, ◌∙◌, subst, arith}
 use Rattle.std.proofs.lemmas.Bool.{true≢false, cases_Bool}
 use Rattle.std.proofs.lemmas.Option.{none-some}

@@ -1,4 +1,5 @@
--- A line is handed over at most once more than it is said of its intents that they weren't begun or done.
+-- A line is handed over at most once more than it is said of its intents that they weren't begun or
+-- done.
 use Rattle.std.proofs.Common.{◌≡◌, ⊎_elim, inl, inr, ℕ, suc, ◌+◌, ◌≤◌, Bool, true, false, ◌&&◌, ◌||◌, List, [], ◌∷◌, ◌++◌, length, refl, sym, ap, ◌∙◌, subst, arith, append_assoc}
 use Rattle.std.specs.Prelude.{⊤, ◌==◌, if◌then◌else◌}
 use Rattle.std.proofs.lemmas.Bool.{true≢false, false_from_ne_true, eq-eqb, eqb-true, and_parts, and_from, or_cases, or_parts, or_from, or_left, or_right}

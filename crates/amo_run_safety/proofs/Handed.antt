@@ -39,7 +39,8 @@ use Rattle.amo_run_safety.proofs.Counted.{IsCounted}
 use Rattle.amo_run_safety.proofs.Sane.{at_number, IsGood, IsGoodIf, Fits, FitsIn, IsSane}
 use Rattle.amo_run_safety.proofs.Events.{sane_after}
 
--- In the round that stands, each job of its line was handed over already, unless it was said that the intent wasn't begun or done.
+-- In the round that stands, each job of its line was handed over already, unless it was said that
+-- the intent wasn't begun or done.
 abbrev pub IsPast : Option Round → List (ℕ × ℕ) → Handing → Type 0
 IsPast None said h = ⊤
 IsPast (Some r) said h = (j : ℕ) → IsJob r.givens j → numbered 0 r.written.lines j ≡ h.line → (is_among said h.worker h.serial ≡ true) ⊎ (has (handed_jobs r.moments) j ≡ true)

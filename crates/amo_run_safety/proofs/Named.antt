@@ -70,7 +70,8 @@ not_spent (Clearing n a j) h = absurd (true≢false (sym h))
 not_spent (Performing n a j) h = absurd (true≢false (sym h))
 not_spent s h = refl
 
--- who has just handed something over, or found it taken: a deed after which the next access comes before any performance
+-- who has just handed something over, or found it taken: a deed after which the next access comes
+-- before any performance
 abbrev pub IsLast : Deed → Type 0
 IsLast d = (s : Stage) → due s ≡ Some (try_of d) → is_spent (stage_after s d) ≡ true
 

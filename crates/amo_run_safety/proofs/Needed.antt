@@ -1,5 +1,6 @@
--- By two of the three locks a line is performed twice, though all that is said is true when it is said, and nothing of it is under
--- way. So it is if a process may still ask for the line. By all three it is, if what is said isn't true, or if a request is under way.
+-- By two of the three locks a line is performed twice, though all that is said is true when it is
+-- said, and nothing of it is under way. So it is if a process may still ask for the line. By all
+-- three it is, if what is said isn't true, or if a request is under way.
 use Rattle.std.proofs.lemmas.Bool.{true≢false}
 use Rattle.std.proofs.Common.{◌≡◌, ℕ, true, List, [], ◌∷◌, ◌++◌, map, Some, refl, inl, inr, arith, sym}
 use Rattle.amo_driver.specs.declared.model.Deed.TheVariants.{Cleared}
@@ -47,7 +48,8 @@ runners_patience = said_once (λ (y : Yard). y.sent) until_asked (map Happens ag
 pub runners_lines : lines_in (yard_of runners_actions).performed ≡ 1 ∷ 1 ∷ []
 runners_lines = refl
 
--- without the command's lock: the first command goes on, and sends its request after it was said not to have been performed
+-- without the command's lock: the first command goes on, and sends its request after it was said
+-- not to have been performed
 
 abbrev late_effect : List Action
 late_effect = at_last ++ Sends first_command ∷ Arrives first_command ∷ []
@@ -146,7 +148,8 @@ processes_patience = said_once (λ (y : Yard). y.sent) (map Happens intended) th
 pub processes_lines : lines_in (yard_of processes_actions).performed ≡ 1 ∷ 1 ∷ []
 processes_lines = refl
 
--- it is said while the process may still ask for the line: it asks, it is clear, and the process hands the line over
+-- it is said while the process may still ask for the line: it asks, it is clear, and the process
+-- hands the line over
 
 abbrev then_asked : List Action
 then_asked = Happens (Acts 1 20 (Cleared 1 1 true)) ∷ then_handed

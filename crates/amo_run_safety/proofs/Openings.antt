@@ -1,4 +1,5 @@
--- Intents of which it was said that they weren't begun or done, and what journals and findings then say.
+-- Intents of which it was said that they weren't begun or done, and what journals and findings then
+-- say.
 use Rattle.std.proofs.Common.{◌≡◌, ◌⊎◌, ℕ, Bool, true, false, ◌&&◌, ◌||◌, List, [], ◌∷◌, ◌++◌, take, zero, suc, refl, sym, ap, ◌∙◌}
 use Rattle.std.specs.Prelude.{◌==◌, if◌then◌else◌}
 use Rattle.std.specs.List.{AllByRecursion, list_any}

@@ -1,4 +1,5 @@
--- Outcomes that are owed: one is lost with its process, one is appended alone, and one is appended with the next intent.
+-- Outcomes that are owed: one is lost with its process, one is appended alone, and one is appended
+-- with the next intent.
 use Rattle.std.proofs.Common.{◌≡◌, true, List, [], ◌∷◌, ◌++◌, Some, refl, arith}
 use Rattle.amo_givens.specs.Givens.{IsWorker}
 use Rattle.amo_givens.specs.Limits.{within_limits}

@@ -73,7 +73,8 @@ pub number_in : (o : Option Round) → IsGoodIf o → (f : File Entry) (p q : �
 number_in None good f p q h = absurd h
 number_in (Some r) good f p q h = seated_number r.written good.sound p q h.0
 
--- the process of worker p, whose journal this is, may be here; if it is in a round, that is the last one
+-- the process of worker p, whose journal this is, may be here; if it is in a round, that is the
+-- last one
 abbrev pub Fits : (ℕ → Option Round) → (last : ℕ) → File Entry → ℕ → Whereabouts → Type 0
 Fits rounds last f p Away = ⊤
 Fits rounds last f p (Before s) = (is_asking s ≡ true) × (is_broken s ≡ false → f.loose ≡ [])

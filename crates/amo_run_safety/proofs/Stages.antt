@@ -106,7 +106,8 @@ is_performing (Clearing n a j) = true
 is_performing (Performing n a j) = true
 is_performing s = false
 
--- A process that has just loaded or stored something goes on, finds a job, is to intend one, is to leave, or refuses the value.
+-- A process that has just loaded or stored something goes on, finds a job, is to intend one, is to
+-- leave, or refuses the value.
 module _ (P : Stage → Type 0) (n : ℕ) (a : ProcessView) (going : (way : Way) → P (Going n a way)) (finding : (j : ℕ) → P (Finding n a j)) (intending : (j : ℕ) → P (Intending n a j)) (leaving : P (Leaving a)) where
   by_jobs : (t d : ℕ) → P (stage_by_jobs n a t d)
   by_jobs zero zero = going Go

@@ -1,4 +1,5 @@
--- A property of the stage at which the worker of a round stands: it stays if others act, and if a round is begun.
+-- A property of the stage at which the worker of a round stands: it stays if others act, and if a
+-- round is begun.
 use Rattle.std.proofs.Common.{◌≡◌, ℕ, false, Option, Some, None, sym, subst}
 use Rattle.std.specs.Prelude.{⊤}
 use Rattle.std.proofs.lemmas.Bool.{true≢false}

@@ -1,4 +1,5 @@
--- Runs with the runners that begin the commands of what is handed over, and with doubts that are listed.
+-- Runs with the runners that begin the commands of what is handed over, and with doubts that are
+-- listed.
 use Rattle.std.specs.Prelude.{◌≡◌, ⊤, ℕ, ◌≤◌, Bool, true, false, ◌&&◌, List, [], ◌∷◌, ◌++◌, length, Some, ◌==◌, if◌then◌else◌}
 use Rattle.amo_driver.specs.declared.model.Try.TheVariants.{Clear, Perform}
 use Rattle.amo_run_log.specs.declared.journal.Attempt.{Attempt}
@@ -50,7 +51,8 @@ abbrev pub is_stop : Event → Bool
 is_stop (Stops left n) = true
 is_stop e = false
 
--- the same if the machine goes on; if it stops all runners and commands are gone, but not the requests that they have sent
+-- the same if the machine goes on; if it stops all runners and commands are gone, but not the
+-- requests that they have sent
 abbrev pub unless_stopped : Event → List Handing → List Handing
 unless_stopped e hs = if is_stop e then [] else hs
 
@@ -69,8 +71,8 @@ yard_after y (Ends h) = record y { running = without h y.running }
 yard_after y (Drops h) = record y { waiting = without h y.waiting }
 yard_after y (Lists p n line) = y
 
--- The intent of worker p with this serial number is over on this machine. No process is about to ask
--- whether it may hand it over, or to hand it over. No runner is about to begin its command, and
+-- The intent of worker p with this serial number is over on this machine. No process is about to
+-- ask whether it may hand it over, or to hand it over. No runner is about to begin its command, and
 -- nothing is left here of that command. The intent is over if the one that claims this holds the
 -- locks of the journal, of the runner and of the command. A request that the command has sent may
 -- still be under way.
@@ -89,8 +91,9 @@ pub record MayList (over : Yard → (p n : ℕ) → Type 0) (y : Yard) (p n line
   pub there : n ≤ length attempts
   pub its_end : over y p n
 
--- An intent is said not to have been begun, or done, only once it is over. A command sends its request only while something
--- of it is left here. The request arrives at any later time, and of one command the line is performed once at most.
+-- An intent is said not to have been begun, or done, only once it is over. A command sends its
+-- request only while something of it is left here. The request arrives at any later time, and of
+-- one command the line is performed once at most.
 abbrev pub MayFollow : (over : Yard → (p n : ℕ) → Type 0) → Yard → Action → Type 0
 MayFollow over y (Happens e) = MayHappen y.site e × ((p n : ℕ) → is_among (openings_by y.site e) p n ≡ true → over y p n)
 MayFollow over y (Begins h) = IsOneOf y.waiting h
@@ -141,7 +144,8 @@ said_in actions = said_from first_yard actions
 abbrev pub AreNotAmong : List Handing → List (ℕ × ℕ) → Type 0
 AreNotAmong hs is = (p n : ℕ) → is_among is p n ≡ true → is_among (names_of hs) p n ≡ false
 
--- An intent that is said not to have been begun or done is not among the selected ones when it is said.
+-- An intent that is said not to have been begun or done is not among the selected ones when it is
+-- said.
 abbrev pub IsSaidOfNone : (Yard → List Handing) → Yard → List Action → Type 0
 IsSaidOfNone these y [] = ⊤
 IsSaidOfNone these y (a ∷ actions) = AreNotAmong (these y) (said_by y a) × IsSaidOfNone these (yard_after y a) actions
@@ -150,7 +154,8 @@ IsSaidOfNone these y (a ∷ actions) = AreNotAmong (these y) (said_by y a) × Is
 abbrev pub IsTruthful : List Action → Type 0
 IsTruthful actions = IsSaidOfNone (λ (y : Yard). y.performed) first_yard actions
 
--- When it is said of an intent, none of its requests is under way: the one who says it has waited for that.
+-- When it is said of an intent, none of its requests is under way: the one who says it has waited
+-- for that.
 abbrev pub IsPatient : List Action → Type 0
 IsPatient actions = IsSaidOfNone (λ (y : Yard). y.sent) first_yard actions
 

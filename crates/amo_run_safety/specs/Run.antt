@@ -46,13 +46,15 @@ entries_of_try lines time (Intend n j) = IntentOf n (numbered 0 lines j) time �
 entries_of_try lines time (Note n answer) = AnswerTo n (as_noted time answer) ∷ []
 entries_of_try lines time t = []
 
--- In a round a process that tries this, and owes these outcomes, appends these entries. It appends an intent, and in the same append
--- the outcomes that it owes. It appends no note: an outcome is owed once it is noted.
+-- In a round a process that tries this, and owes these outcomes, appends these entries. It appends
+-- an intent, and in the same append the outcomes that it owes. It appends no note: an outcome is
+-- owed once it is noted.
 abbrev pub with_owed : (owed : List Entry) → List ℕ → (time : ℕ) → Try → List Entry
 with_owed owed lines time (Intend n j) = owed ++ IntentOf n (numbered 0 lines j) time ∷ []
 with_owed owed lines time t = []
 
--- The entries that a process appends that is here. Before it has joined a round it appends each note at once.
+-- The entries that a process appends that is here. Before it has joined a round it appends each
+-- note at once.
 abbrev pub appended : Whereabouts → (owed : List Entry) → List ℕ → (time : ℕ) → Try → List Entry
 appended Away owed lines time t = []
 appended (Before s) owed lines time t = entries_of_try lines time t
@@ -168,9 +170,10 @@ MissesAnswers seen all = (missed : List Entry) × (all ≡ seen ++ missed) × Al
 abbrev pub MissesSome : (seen all : List Finding) → Type 0
 MissesSome seen all = (missed : List Finding) × (all ≡ seen ++ missed)
 
--- Nobody is in a round: who begins one holds its lock alone. It has read the findings and then each journal, and answers and findings
--- may have come since; no intents, since those come of who is in a round. Each journal can be read, and by what all say, and what
--- persons said, each line of the record is open. Which of the open lines it has, who begins it, and its threshold are free.
+-- Nobody is in a round: who begins one holds its lock alone. It has read the findings and then each
+-- journal, and answers and findings may have come since; no intents, since those come of who is in
+-- a round. Each journal can be read, and by what all say, and what persons said, each line of the
+-- record is open. Which of the open lines it has, who begins it, and its threshold are free.
 pub record MayBegin (w : Site) (g : Givens) (r : RecordView) (lines : ℕ) : Type 0 where
   pub nobody : (p : ℕ) → IsNumber p → is_inside (w.whereabouts p) ≡ false
   pub findings : List Finding
@@ -184,8 +187,9 @@ pub record MayBegin (w : Site) (g : Givens) (r : RecordView) (lines : ℕ) : Typ
   pub jobs : g.jobs ≡ r.givens.jobs
   pub workers : g.workers ≡ r.givens.workers
 
--- The process has asked for all that was left, the last round is of this boot, and it has its seat by the record. It owes nothing, since
--- it was in no round. Its next intent is the next of its journal.
+-- The process has asked for all that was left, the last round is of this boot, and it has its seat
+-- by the record. It owes nothing, since it was in no round. Its next intent is the next of its
+-- journal.
 pub record MayJoin (w : Site) (p q n : ℕ) : Type 0 where
   pub asked : w.whereabouts p ≡ Before (Asking [])
   pub joinable : w.joinable ≡ true
@@ -270,7 +274,8 @@ abbrev pub handings_of_try : (p : ℕ) → List ℕ → Try → List Handing
 handings_of_try p lines (Perform n j) = record { worker = p; serial = n; line = numbered 0 lines j } ∷ []
 handings_of_try p lines t = []
 
--- what is handed over in an event: whether the partner answers, the call fails, or the process dies in it
+-- what is handed over in an event: whether the partner answers, the call fails, or the process dies
+-- in it
 abbrev pub handings_by : Site → Event → List Handing
 handings_by w (Acts p time d) = handings_of_try p (lines_at w.rounds (w.whereabouts p)) (try_of d)
 handings_by w (Misses p time t) = handings_of_try p (lines_at w.rounds (w.whereabouts p)) t
@@ -285,7 +290,8 @@ handings_from w (e ∷ es) = handings_by w e ++ handings_from (site_after w e) e
 abbrev pub handings : List Event → List Handing
 handings es = handings_from first_site es
 
--- The intents of worker p that these entries say were not begun. An intent is named by its worker and its serial number.
+-- The intents of worker p that these entries say were not begun. An intent is named by its worker
+-- and its serial number.
 abbrev pub opened_by_entries : (p : ℕ) → List Entry → List (ℕ × ℕ)
 opened_by_entries p [] = []
 opened_by_entries p (IntentOf n line time ∷ es) = opened_by_entries p es
@@ -295,7 +301,8 @@ opened_by_entries p (AnswerTo n answer ∷ es) = if opens answer then (p, n) ∷
 abbrev pub opened_by_finding : Finding → List (ℕ × ℕ)
 opened_by_finding f = if is_not_done f.verdict then (f.worker, f.serial) ∷ [] else []
 
--- The intents that an event says this of, also if it is lost or fails. A note counts from then on, whether appended or owed.
+-- The intents that an event says this of, also if it is lost or fails. A note counts from then on,
+-- whether appended or owed.
 abbrev pub openings_by : Site → Event → List (ℕ × ℕ)
 openings_by w (Acts p time d) = opened_by_entries p (entries_of_try (lines_at w.rounds (w.whereabouts p)) time (try_of d))
 openings_by w (Misses p time t) = opened_by_entries p (entries_of_try (lines_at w.rounds (w.whereabouts p)) time t)
@@ -309,7 +316,8 @@ abbrev pub openings_from : Site → List Event → List (ℕ × ℕ)
 openings_from w [] = []
 openings_from w (e ∷ es) = openings_by w e ++ openings_from (site_after w e) es
 
--- all intents of which it is ever said, noted by a process as `unbegun` or by a person as `not-done`
+-- all intents of which it is ever said, noted by a process as `unbegun` or by a person as
+-- `not-done`
 abbrev pub openings : List Event → List (ℕ × ℕ)
 openings es = openings_from first_site es
 

@@ -21,7 +21,8 @@ pub data Whereabouts : Type 0 where
   -- it has joined the round of this number, and acts as this one of its workers
   Inside : (round seat : ℕ) → Whereabouts
 
--- A round: its givens, its record, and what has happened in it, as a history of workers over one list of words.
+-- A round: its givens, its record, and what has happened in it, as a history of workers over one
+-- list of words.
 pub record Round : Type 0 where
   pub givens : Givens
   pub written : RecordView

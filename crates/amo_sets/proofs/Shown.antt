@@ -38,7 +38,8 @@ pub kept_is : (a : Inside) (s : List Bool) → the_view a ≡ s → the_invarian
 kept_is a s e inv =
     inv.kept ∙ ap (λ (m : ℕ). count m (bit a.words.items)) (sym (length_of a s e)) ∙ count_same (length s) (bit a.words.items) (numbered false s) (λ j l h. sym (member_of a s e j l h))
 
--- if there is a stranger, there are fewer members than jobs; and if there is a member, there is one at least
+-- if there is a stranger, there are fewer members than jobs; and if there is a member, there is one
+-- at least
 pub with_stranger : (a : Inside) (s : List Bool) (j : ℕ) → the_view a ≡ s → the_invariant a → 1 ≤ j → j ≤ length s → numbered false s j ≡ false → a.len < a.range
 with_stranger a s j e inv l h is = let n = length_of a s e in let kept = kept_is a s e inv in let few = count_lt (length s) (numbered false s) j l h is in omega arith
 

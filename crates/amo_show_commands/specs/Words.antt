@@ -19,7 +19,8 @@ command_asked word =
 abbrev pub option_asked : List ℕ → List ℕ → Option Show
 option_asked word option = if bytes_eq word (codes "judge") && bytes_eq option (codes "--run") then Some JudgeRun else None
 
--- what the words after the program's name ask for, or None if they are no command: one word, or one with its option
+-- what the words after the program's name ask for, or None if they are no command: one word, or one
+-- with its option
 abbrev pub asked : List (List ℕ) → Option Show
 asked (word ∷ []) = command_asked word
 asked (word ∷ option ∷ []) = option_asked word option

@@ -12,7 +12,8 @@ use Rattle.amo_worst_case.specs.Schedule.{worst_schedule}
 use Rattle.amo_state_space.specs.declared.answer.TheConstants.{MOST_ALONE}
 use Rattle.amo_state_space.specs.Runs.{IsWholeRun}
 
--- with so many workers no more jobs, or blocks, are looked through: half as many for each worker more
+-- with so many workers no more jobs, or blocks, are looked through: half as many for each worker
+-- more
 abbrev pub most_jobs : ℕ → ℕ
 most_jobs workers = MOST_ALONE / 2 ^ (workers - 1)
 
@@ -30,7 +31,8 @@ abbrev pub turn_words : List ℕ → List ℕ
 turn_words [] = []
 turn_words (p ∷ ps) = decimal p ++ spaced ps
 
--- so many worlds; the fewest that are performed, with the schedule after which no more are; and a longest run, with its schedule
+-- so many worlds; the fewest that are performed, with the schedule after which no more are; and a
+-- longest run, with its schedule
 unfoldable pub found_text : Givens → ℕ → List ℕ → List ℕ
 found_text g worlds turns =
     codes "worlds " ++ (decimal worlds ++ (codes "\nleast " ++ (decimal (fewest g) ++ (codes "\nschedule = \"" ++ (worst_schedule g

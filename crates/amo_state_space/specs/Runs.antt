@@ -7,7 +7,8 @@ use Rattle.amo_givens.specs.declared.moves.Move.{Move}
 use Rattle.amo_bounds.specs.Fewest.{ComesToEnd, stopped}
 use Rattle.amo_bounds.specs.Rest.{turns_taken}
 
--- The moves are turns, each of a worker that there is and that isn't gone by then, and after them all workers are gone.
+-- The moves are turns, each of a worker that there is and that isn't gone by then, and after them
+-- all workers are gone.
 pub record IsWholeRun (g : Givens) (ms : List Move) : Type 0 where
   pub comes_to_end : ComesToEnd g ms
   pub nobody_stops : stopped ms ≡ []

@@ -19,7 +19,8 @@ pub record IsSearch (w : WorldView) (moves : List Move) : Type 0 where
   pub led : w.world ≡ world_of w.givens moves
   pub in_range : are_in_range w.givens moves ≡ true
 
--- the move is a turn of a worker that isn't gone, or its stop, where fewer were stopped than all others are
+-- the move is a turn of a worker that isn't gone, or its stop, where fewer were stopped than all
+-- others are
 abbrev pub is_allowed : Givens → World → ℕ → Move → Bool
 is_allowed g w stops (Turn p) = not (process w p).gone
 is_allowed g w stops (Halt p) = not (process w p).gone && nat_lt (stops + 1) g.workers

@@ -1,10 +1,12 @@
--- How long ago something ended, by the time in its record and by a clock, both in seconds since 1970.
+-- How long ago something ended, by the time in its record and by a clock, both in seconds since
+-- 1970.
 use Rattle.std.specs.Prelude.{ℕ, ◌-◌, ◌==◌, nat_lt, List, codes, if◌then◌else◌}
 use Rattle.std.specs.Fmt.{decimal}
 use Rattle.amo_status.specs.declared.age.Age.{Age}
 use Rattle.amo_status.specs.declared.age.Age.TheVariants.{Unknown, Ahead, Seconds}
 
--- by a clock that shows `now`: the time 0 stands for one that is not known, and a later time than the clock's is ahead of it
+-- by a clock that shows `now`: the time 0 stands for one that is not known, and a later time than
+-- the clock's is ahead of it
 abbrev pub age_of : ℕ → ℕ → Age
 age_of now ended = if ended == 0 then Unknown else (if nat_lt now ended then Ahead else Seconds (now - ended))
 

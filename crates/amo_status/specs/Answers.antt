@@ -60,7 +60,8 @@ abbrev pub refusal_of : List Finding → List (List Attempt) → List AttemptId 
 refusal_of findings journals finals worker serial line verdict =
     refusal_of_option findings journals finals worker serial line verdict (attempt_of journals worker serial)
 
--- whether a person is asked about what is known so: nobody can know, it did nothing, or its code is no success
+-- whether a person is asked about what is known so: nobody can know, it did nothing, or its code is
+-- no success
 abbrev pub is_asked : Bool → Option Outcome → Bool
 is_asked final None = final
 is_asked final (Some (Ended code time)) = not (code == 0)
@@ -68,15 +69,16 @@ is_asked final (Some (Unknown time)) = true
 is_asked final (Some Unbegun) = false
 is_asked final (Some (Idle code time)) = true
 
--- an answer to this intent may be taken: it is an intent of the line, a person is asked about it and hasn't answered, and by it
--- the line is closed now
+-- an answer to this intent may be taken: it is an intent of the line, a person is asked about it
+-- and hasn't answered, and by it the line is closed now
 pub record MayBeTaken (findings : List Finding) (journals : List (List Attempt)) (finals : List AttemptId) (worker serial line : ℕ) : Type 0 where
   pub asked : (e : Attempt) × (attempt_of journals worker serial ≡ Some e) × (e.line ≡ line) × (is_asked (is_among finals worker serial) e.answer ≡ true)
   pub unanswered : list_any (is_of worker serial) findings ≡ false
   pub closing : is_closed_by findings journals finals worker serial line ≡ true
 
--- whether an answer has to wait until what the attempt had sent has surely arrived: only `not-done`, of an attempt that is in doubt
--- or has failed. The command of any other attempt reports that it did nothing, or was not begun.
+-- whether an answer has to wait until what the attempt had sent has surely arrived: only
+-- `not-done`, of an attempt that is in doubt or has failed. The command of any other attempt
+-- reports that it did nothing, or was not begun.
 abbrev pub must_wait : Resolution → Option Outcome → Bool
 must_wait FoundDone answer = false
 must_wait NotDone None = true
@@ -116,7 +118,8 @@ pub record MayBeTakenNow (waits : Option Quiet) (findings : List Finding) (journ
   pub may : MayBeTaken findings journals finals worker serial line
   pub quiet : (q : Quiet) (e : Attempt) → waits ≡ Some q → attempt_of journals worker serial ≡ Some e → must_wait verdict e.answer ≡ true → IsQuiet q (ended_at e.answer)
 
--- whether an answer that is refused for this reason may be taken only once somebody has looked: nobody knows when its attempt ended
+-- whether an answer that is refused for this reason may be taken only once somebody has looked:
+-- nobody knows when its attempt ended
 abbrev pub is_untimed : Refusal → Bool
 is_untimed EndUnknown = true
 is_untimed (EndAhead ended now) = true
@@ -131,7 +134,8 @@ abbrev pub is_idle : Option Outcome → Bool
 is_idle (Some (Idle code time)) = true
 is_idle answer = false
 
--- the intents of a journal that did nothing and that no person answered, the first of them of this serial number
+-- the intents of a journal that did nothing and that no person answered, the first of them of this
+-- serial number
 abbrev pub untouched_in : List Finding → ℕ → ℕ → List Attempt → List AttemptId
 untouched_in findings worker serial [] = []
 untouched_in findings worker serial (e ∷ es) =

@@ -1,4 +1,5 @@
--- How many lines stand how, as it is written at the head of a status: in words, or as the members of a JSON object.
+-- How many lines stand how, as it is written at the head of a status: in words, or as the members
+-- of a JSON object.
 use Rattle.std.specs.Prelude.{ℕ, List, ◌++◌, codes}
 use Rattle.std.specs.Fmt.{decimal}
 use Rattle.amo_status.specs.declared.count.Counts.{Counts}

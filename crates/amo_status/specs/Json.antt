@@ -17,7 +17,8 @@ use Rattle.amo_status.specs.States.{is}
 abbrev pub comma_if : Bool → List ℕ
 comma_if later = if later then codes "," else []
 
--- whether a line that stands so is shown: in the list of doubts, which has times and needs a clock for it, or in the status
+-- whether a line that stands so is shown: in the list of doubts, which has times and needs a clock
+-- for it, or in the status
 abbrev pub is_shown : Option ℕ → State → Bool
 is_shown (Some now) s = is Doubt s
 is_shown None s = is_listed s
@@ -30,7 +31,8 @@ text_or_null bytes = if is_utf8 bytes then quoted bytes else codes "null"
 abbrev pub json_head : ℕ → LineStatus → List ℕ
 json_head line s = codes "{\"intent\":\"" ++ (decimal s.worker ++ (codes "." ++ (decimal s.serial ++ (codes "\",\"line\":" ++ (decimal line ++ codes ",\"text\":")))))
 
--- After the line's text: in the list of doubts with the time at which it was begun, the one at which it ended, and how long ago that is.
+-- After the line's text: in the list of doubts with the time at which it was begun, the one at
+-- which it ended, and how long ago that is.
 abbrev pub json_tail : Option ℕ → LineStatus → List ℕ
 json_tail (Some now) s =
     codes ",\"state\":\"" ++ (state_word s.state ++ (codes "\",\"time\":" ++ (decimal s.time

@@ -1,4 +1,5 @@
--- Lines as they are listed, a row each: by the intent by which the line is closed, with the line's number and its text.
+-- Lines as they are listed, a row each: by the intent by which the line is closed, with the line's
+-- number and its text.
 use Rattle.std.specs.Prelude.{ℕ, ◌+◌, Bool, true, false, List, [], ◌∷◌, ◌++◌, codes, slice_index_or, if◌then◌else◌}
 use Rattle.std.specs.Fmt.{decimal}
 use Rattle.amo_status.specs.declared.count.Counts.{Counts}
@@ -57,7 +58,8 @@ abbrev pub row_head : Form → ℕ → LineStatus → List ℕ
 row_head (Kind kind) line s = kind_head line s
 row_head form line s = status_head line s
 
--- The text after a line's text: its end, in the list of doubts after the time at which it was begun, and how long ago it ended.
+-- The text after a line's text: its end, in the list of doubts after the time at which it was
+-- begun, and how long ago it ended.
 abbrev pub row_tail : Form → LineStatus → List ℕ
 row_tail (Doubts now) s = codes " " ++ (decimal s.time ++ (codes " " ++ (age_word (age_of now s.ended) ++ line_end)))
 row_tail form s = line_end

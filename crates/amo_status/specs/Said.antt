@@ -1,5 +1,5 @@
--- Answers of persons as they are written: the intent, the number of its line, the line's text and the verdict, a tab between
--- each two.
+-- Answers of persons as they are written: the intent, the number of its line, the line's text and
+-- the verdict, a tab between each two.
 use Rattle.std.specs.Prelude.{◌≡◌, ◌≢◌, ◌<◌, ◌≤◌, ◌-◌, ◌^◌, ℕ, ◌==◌, nat_lt, List, [], ◌∷◌, ◌++◌, codes, length, slice_index_or, take, drop, Option, Some, None, option_and_then, if◌then◌else◌}
 use Rattle.std.specs.Fmt.{decimal}
 use Rattle.std.specs.List.{after_first, before_first, position_or_len}
@@ -83,7 +83,8 @@ lines_from (b ∷ bs) begun = if b == 10 then begun ∷ lines_from bs [] else li
 abbrev pub lines_in : List ℕ → List (List ℕ)
 lines_in bytes = lines_from bytes []
 
--- why a file of these lines is refused: the line of this number, from 1, says no answer, and each line before it says one
+-- why a file of these lines is refused: the line of this number, from 1, says no answer, and each
+-- line before it says one
 abbrev pub IsRefused : List (List ℕ) → Fault → Type 0
 IsRefused lines Memory = Unit {0}
 IsRefused lines (Refused number) =

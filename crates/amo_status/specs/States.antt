@@ -1,4 +1,5 @@
--- How an intent stands: by its answer, by what persons found out, and by whether a missing answer is final.
+-- How an intent stands: by its answer, by what persons found out, and by whether a missing answer
+-- is final.
 use Rattle.std.specs.Prelude.{ℕ, Bool, ◌&&◌, ◌||◌, ◌==◌, not, List, Option, Some, None, if◌then◌else◌}
 use Rattle.std.specs.List.{list_any}
 use Rattle.amo_run_log.specs.declared.entry.Outcome.{Outcome}
@@ -31,7 +32,8 @@ is_among intents worker serial = list_any (λ i. (i.worker == worker) && (i.seri
 abbrev pub is_found_done : List Finding → ℕ → ℕ → Bool
 is_found_done findings worker serial = list_any (λ f. not (is_not_done f.verdict) && is_of worker serial f) findings
 
--- when an intent ended, by the time in its answer, in seconds since 1970; 0 stands for a time that is not known
+-- when an intent ended, by the time in its answer, in seconds since 1970; 0 stands for a time that
+-- is not known
 abbrev pub ended_at : Option Outcome → ℕ
 ended_at None = 0
 ended_at (Some (Ended code time)) = time
@@ -46,12 +48,14 @@ state_in (Unknown time) = Doubt
 state_in Unbegun = Open
 state_in (Idle code time) = Untouched
 
--- how it stands by what is known of it; without an answer it runs, unless nobody can answer any more
+-- how it stands by what is known of it; without an answer it runs, unless nobody can answer any
+-- more
 abbrev pub state_by : Bool → Option Outcome → State
 state_by final None = if final then Doubt else Running
 state_by final (Some answer) = state_in answer
 
--- how an intent stands: what was opened again is open, and a person's word that it was done goes before its answer
+-- how an intent stands: what was opened again is open, and a person's word that it was done goes
+-- before its answer
 abbrev pub state_of : List Finding → List AttemptId → ℕ → ℕ → Option Outcome → State
 state_of findings finals worker serial answer =
     if reopens answer || is_undone findings worker serial then Open

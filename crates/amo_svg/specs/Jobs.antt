@@ -1,5 +1,6 @@
--- The picture of a long run: a column for each job, a narrow lane for each worker, and below the columns a band. In it n is the number
--- of jobs, or of blocks, and `last` the number of the last row.
+-- The picture of a long run: a column for each job, a narrow lane for each worker, and below the
+-- columns a band. In it n is the number of jobs, or of blocks, and `last` the number of the last
+-- row.
 use Rattle.std.specs.Prelude.{ℕ, zero, suc, ◌+◌, ◌-◌, ◌*◌, ◌%◌, max, ◌&&◌, List, [], ◌++◌, count_by, Option, Some, None, slice_get, ◌==◌, if◌then◌else◌, codes}
 use Rattle.std.specs.Fmt.{decimal}
 use Rattle.std.specs.List.{position_or_len}
@@ -104,7 +105,8 @@ jobs_ground p rows =
     ++ grid_line (jobs_width p) (last_number rows) (last_number rows)
     ++ path (codes "p") (wide (columns_of p)) Columns (columns_of p) 0 rows
 
--- the picture with a column for each job, of the plan whose moves lead to this world, in which these jobs are unclaimed
+-- the picture with a column for each job, of the plan whose moves lead to this world, in which
+-- these jobs are unclaimed
 unfoldable pub jobs_picture : PlanSeen → World → List ℕ → List Transition → List ℕ
 jobs_picture p w js rows =
     head p w js (jobs_width p) (band_end p + 160) ++ jobs_ground p rows

@@ -84,7 +84,8 @@ label_of Still over = []
 abbrev pub lane : ℕ → ℕ
 lane p = 176 * p - 100
 
--- how far down row r is: each time that the heads of the lanes come again they take the place of a row
+-- how far down row r is: each time that the heads of the lanes come again they take the place of a
+-- row
 abbrev pub row : ℕ → ℕ
 row r = 72 + 18 * (r + (r - 1) / RULED_ROWS)
 
@@ -125,7 +126,8 @@ seen_at want = 0
 unfoldable pub level_to : ℕ → List ℕ
 level_to x = codes "H" ++ decimal x ++ codes "m0 -5v10\"/>\n"
 
--- the level line of a load of worker p in a row at height y, from its mark, or from the end of its words, to the word
+-- the level line of a load of worker p in a row at height y, from its mark, or from the end of its
+-- words, to the word
 abbrev pub line_start : ℕ → Want → List ℕ → ℕ
 line_start p want label = if nat_lt (loaded_of want) p then lane p else lane p + 14 + 8 * length label
 
@@ -137,8 +139,9 @@ line_to p y want label = at_place (line_start p want label) y ++ level_to (seen_
 abbrev pub apart : ℕ → ℕ → ℕ
 apart r rows = row (r + rows) - row r
 
--- what leads up to the mark of worker p in row r, the transitions after it being these: the line of a load, the bar of an
--- announcement, which is as long as it stands, and the bar of a claim, which is as long as the job is in hand
+-- what leads up to the mark of worker p in row r, the transitions after it being these: the line of
+-- a load, the bar of an announcement, which is as long as it stands, and the bar of a claim, which
+-- is as long as the job is in hand
 unfoldable pub lead_at : ℕ → ℕ → List ℕ → List Transition → Mark → List ℕ
 lead_at p r label rest (Own want v) = stroke_start (codes "x") 2 ++ line_to p (row r) want label
 lead_at p r label rest (Other want v) = dotted_start (codes "f") ++ line_to p (row r) want label

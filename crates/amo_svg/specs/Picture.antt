@@ -19,8 +19,8 @@ use Rattle.amo_svg.specs.Wording.{rows_key}
 abbrev pub rows_end : List Transition → ℕ
 rows_end rows = row (length rows + 1)
 
--- the picture with a row for each transition that changes something, of the plan whose moves lead to this world, in which these
--- jobs are unclaimed
+-- the picture with a row for each transition that changes something, of the plan whose moves lead
+-- to this world, in which these jobs are unclaimed
 unfoldable pub rows_picture : PlanSeen → World → List ℕ → List Transition → List ℕ
 rows_picture p w js rows =
     head p w js (rows_width p.givens.workers) (rows_end rows + 192)
@@ -34,8 +34,8 @@ rows_picture p w js rows =
 abbrev pub picture_in : PlanSeen → World → List ℕ → List Transition → List ℕ
 picture_in p w js rows = if nat_le (length rows) MOST_ROWS then rows_picture p w js rows else jobs_picture p w js rows
 
--- the picture of a plan: of the transitions that change something, of the world to which its moves lead, and of the jobs that nobody
--- has claimed in it
+-- the picture of a plan: of the transitions that change something, of the world to which its moves
+-- lead, and of the jobs that nobody has claimed in it
 abbrev pub picture_of : PlanSeen → List ℕ
 picture_of p =
     let w = plan_world p in

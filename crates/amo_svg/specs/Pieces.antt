@@ -1,5 +1,5 @@
--- The paths of a picture of jobs, in which each transition of a kind has its piece. In it n is the number of jobs, or of blocks, and
--- `last` the number of the last row.
+-- The paths of a picture of jobs, in which each transition of a kind has its piece. In it n is the
+-- number of jobs, or of blocks, and `last` the number of the last row.
 use Rattle.std.specs.Prelude.{ℕ, ◌+◌, ◌-◌, ◌%◌, Bool, ◌&&◌, List, [], ◌∷◌, ◌++◌, Option, Some, None, slice_get, ◌==◌, if◌then◌else◌, codes}
 use Rattle.std.specs.Fmt.{decimal}
 use Rattle.std.specs.List.{position_or_len}
@@ -38,7 +38,8 @@ abbrev pub mark_end : Option Transition → List ℕ
 mark_end None = codes "v-4"
 mark_end (Some s) = codes "v-10"
 
--- how the path goes on: to the foot, to the performance among the transitions to come, a little, up, or to the right
+-- how the path goes on: to the foot, to the performance among the transitions to come, a little,
+-- up, or to the right
 unfoldable pub piece_end : Kind → ℕ → ℕ → List Transition → List ℕ
 piece_end Columns last p rest = codes "V1032"
 piece_end Holds last p rest = codes "V" ++ decimal (end_of last 2 (next_filing p rest))

@@ -51,7 +51,8 @@ heads_again y (suc n) = heads_again y n ++ head_text (lane (suc n) + 14) (y + 4)
 abbrev pub rows_width : ℕ → ℕ
 rows_width workers = 56 + 176 * max workers 3
 
--- the ruler at height y: a level line with the number of the move above it and the heads of the lanes
+-- the ruler at height y: a level line with the number of the move above it and the heads of the
+-- lanes
 unfoldable pub ruler : ℕ → ℕ → ℕ → List ℕ
 ruler workers y number =
     straight (codes "b") 1 16 (y + 9) (codes "h") (rows_width workers - 32) ++ number_before (codes "i") 44 (y + 4) number

@@ -1,4 +1,5 @@
--- The scale of a picture of jobs: down are the moves, to the right the jobs. `last` is the number of the last row.
+-- The scale of a picture of jobs: down are the moves, to the right the jobs. `last` is the number
+-- of the last row.
 use Rattle.std.specs.Prelude.{ℕ, ◌+◌, ◌-◌, ◌*◌, ◌/◌, max, List, length, Option, Some, None, slice_get, nat_lt, if◌then◌else◌}
 use Rattle.amo_trace.specs.declared.transition.Transition.{Transition}
 
@@ -37,7 +38,8 @@ power v =
     if nat_lt v 1000 then 100 else
     if nat_lt v 10000 then 1000 else 10000
 
--- how far apart the numbers on an axis are that goes up to this one: an eighth, and up to the next multiple of such a power
+-- how far apart the numbers on an axis are that goes up to this one: an eighth, and up to the next
+-- multiple of such a power
 abbrev pub grid_step : ℕ → ℕ
 grid_step last = last / 8 / power (last / 8) * power (last / 8) + power (last / 8)
 
@@ -45,6 +47,7 @@ grid_step last = last / 8 / power (last / 8) * power (last / 8) + power (last / 
 abbrev pub narrow_lane : ℕ → ℕ
 narrow_lane p = 848 + 36 * p
 
--- how far down the marks of the jobs stand that worker p has claimed; those of the jobs of nobody follow the last worker's
+-- how far down the marks of the jobs stand that worker p has claimed; those of the jobs of nobody
+-- follow the last worker's
 abbrev pub band : ℕ → ℕ
 band p = 1052 + 14 * p

@@ -1,4 +1,5 @@
--- A worker is about to claim its job, or the attempt has failed, by what it has loaded in the attempt.
+-- A worker is about to claim its job, or the attempt has failed, by what it has loaded in the
+-- attempt.
 use Rattle.std.proofs.Common.{◌≡◌, ◌≢◌, ℕ, ◌+◌, ◌<◌, ◌≤◌, Bool, true, false, List, [], ◌∷◌, ◌++◌, length, refl, sym, ap, ◌∙◌, subst, arith}
 use Rattle.std.specs.Prelude.{not, ◌&&◌, ◌||◌, ◌==◌, if◌then◌else◌, ⊤}
 use Rattle.std.proofs.lemmas.Bool.{ne_eqb, eqb-true, true≢false}

@@ -9,8 +9,9 @@ use Rattle.amo_trace.specs.declared.transition.Act.TheVariants.{Turned}
 use Rattle.amo_trace.specs.declared.transition.Transition.{Transition}
 use Rattle.amo_trace.specs.Transitions.{job_of}
 
--- whether a worker has loaded its own job j in its attempt once it has loaded v or stored what it wants, given whether it
--- had before: an announcement begins an attempt, in which nothing is loaded yet
+-- whether a worker has loaded its own job j in its attempt once it has loaded v or stored what it
+-- wants, given whether it had before: an announcement begins an attempt, in which nothing is loaded
+-- yet
 abbrev pub has_met_by : Bool → ℕ → Want → ℕ → Bool
 has_met_by met j (StoreNext i) v = false
 has_met_by met j (LoadNext q) v = met || (v == j)
@@ -31,8 +32,8 @@ abbrev pub has_met_since : ℕ → Bool → List Transition → Bool
 has_met_since p met [] = met
 has_met_since p met (s ∷ ss) = has_met_since p (has_met_after p met s) ss
 
--- after these first transitions of a run worker p has loaded its own job, from an announcement or from a row, in the attempt that
--- it makes or made last
+-- after these first transitions of a run worker p has loaded its own job, from an announcement or
+-- from a row, in the attempt that it makes or made last
 abbrev pub has_met : ℕ → List Transition → Bool
 has_met p ss = has_met_since p false ss
 

@@ -1,5 +1,5 @@
--- A line of JSON for a watcher: the head, the counts, and an array for each attempt that is new or has changed. Members and elements
--- stand in this order, with no space.
+-- A line of JSON for a watcher: the head, the counts, and an array for each attempt that is new or
+-- has changed. Members and elements stand in this order, with no space.
 use Rattle.std.specs.Prelude.{ℕ, Bool, true, false, ◌==◌, List, [], ◌∷◌, ◌++◌, codes, Option, Some, None, if◌then◌else◌}
 use Rattle.std.specs.Fmt.{decimal}
 use Rattle.amo_run_log.specs.declared.entry.Outcome.{Outcome}

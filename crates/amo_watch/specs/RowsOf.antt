@@ -1,4 +1,5 @@
--- The attempts of a journal, each with how it stands if nobody has looked whether a pending one is over.
+-- The attempts of a journal, each with how it stands if nobody has looked whether a pending one is
+-- over.
 use Rattle.std.specs.Prelude.{ℕ, ◌+◌, List, [], ◌∷◌}
 use Rattle.amo_run_log.specs.declared.finding.Finding.{Finding}
 use Rattle.amo_run_log.specs.declared.journal.Attempt.{Attempt}

@@ -104,7 +104,8 @@ opened_view {P} k = go (nat_lt 0 k.givens.jobs)
     go true = refl
     go false = refl
 
--- A new table whose first view is that of the key, once all payloads are placed: its registry, and the result.
+-- A new table whose first view is that of the key, once all payloads are placed: its registry, and
+-- the result.
 pub all_opened : {P : Type 0} (k : Key P) (first v : View P) (id id' : TableId) (seat : ℕ) (spots : List Spot) (room workers : ℕ)
     → id'.words ≡ word_count k.givens → id'.slots ≡ k.givens.jobs → id ≡ id' → first ≡ first_view k → v ≡ record first { role = open_role first.givens }
     → workers ≡ k.givens.workers → spots ≡ replicate workers Home → room ≡ workers

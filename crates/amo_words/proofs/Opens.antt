@@ -1,4 +1,5 @@
--- How the table is opened: the words of the opening world, and what the two kinds of opening step owe.
+-- How the table is opened: the words of the opening world, and what the two kinds of opening step
+-- owe.
 use Rattle.std.proofs.Common.{◌≡◌, ◌≢◌, ℕ, zero, suc, ◌+◌, ◌-◌, ◌*◌, ◌<◌, ◌==◌, ◌&&◌, List, [], ◌∷◌, ◌++◌, length, replicate, get_or, set, map, sym, refl, ap, ◌∙◌, subst, inl, inr, arith, Option, Some, None, Bool, true, false, cond, ltb, lt-ltb, le-ltb, ltb-true, ltb-false, eq-eqb, ne_eqb, length-set}
 use Rattle.std.proofs.lemmas.List.{set-get_or, length-map}
 use mathlib.Core.Logic.{dite}

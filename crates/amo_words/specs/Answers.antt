@@ -26,7 +26,8 @@ abbrev pub quiet_step : {P : Type 0} → Shown → Step P
 quiet_step Ended = StepEnded
 quiet_step event = Moved
 
--- The worker with the machine l took a turn from the view v to w, and the step's result is what its event shows.
+-- The worker with the machine l took a turn from the view v to w, and the step's result is what its
+-- event shows.
 pub record HasStepped {P : Type 0} (v : View P) (l : LocalView) (step : Step P) (w : View P) : Type 0 where
   pub loaded : ℕ
   pub turned : HasTurned v l loaded w

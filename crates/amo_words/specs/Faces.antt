@@ -1,4 +1,5 @@
--- Floor, book and worker as contracts see them; within this crate, `IsWorking` and `IsBook`, what holds of their fields.
+-- Floor, book and worker as contracts see them; within this crate, `IsWorking` and `IsBook`, what
+-- holds of their fields.
 use Rattle.std.specs.Prelude.{◌≡◌, ℕ, List, [], length, Option}
 use Rattle.amo_sets.specs.Lists.{numbered}
 use Rattle.atomic_table.specs.Seated.{TableId}
@@ -58,8 +59,9 @@ pub record IsWorking {P : Type 0} (v : View P) (id : TableId) (l : LocalView) : 
   pub worker : IsWorker l.givens l.number
   pub sound : IsSoundRecord l.givens l.number l.state
 
--- The facts about a registry's fields: its handle's view, its table, the givens, and the slot states, whose list has
--- exactly the room that it needs. The registry's machines stand after the moves that it has seen.
+-- The facts about a registry's fields: its handle's view, its table, the givens, and the slot
+-- states, whose list has exactly the room that it needs. The registry's machines stand after the
+-- moves that it has seen.
 pub record IsBook {P : Type 0} (v : View P) (id : TableId) (g : Givens) (spots : List Spot) (room : ℕ) : Type 0 where
   pub role : v.role ≡ Keeping spots
   pub givens : v.givens ≡ g
@@ -76,7 +78,8 @@ pub record AreShown (g : Givens) (all : List Process) (words : List ℕ) : Type 
   pub sound : (p : ℕ) → IsWorker g p → IsSoundProcess g p (numbered nobody all p)
   pub shown : words ≡ words_of all
 
--- A closed floor: the givens, the spots of its book from worker 1, and its words and slots as they stood.
+-- A closed floor: the givens, the spots of its book from worker 1, and its words and slots as they
+-- stood.
 pub record ClosedView (P : Type 0) : Type 0 where
   pub givens : Givens
   pub spots : List Spot

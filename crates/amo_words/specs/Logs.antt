@@ -1,5 +1,5 @@
--- The worlds that workers on words lead to: each after a list of turns and leavings, from the opening world. Such a list
--- is called a log.
+-- The worlds that workers on words lead to: each after a list of turns and leavings, from the
+-- opening world. A log is such a list.
 use Rattle.std.specs.Prelude.{◌≡◌, ℕ, ◌+◌, ◌*◌, Bool, true, false, ◌||◌, ◌==◌, List, [], ◌∷◌, ◌++◌, count_by}
 use Rattle.amo_sets.specs.Sets.{has}
 use Rattle.amo_kk.specs.Choice.{first_record}
@@ -27,8 +27,8 @@ first_machine g p = record { givens = g; number = p; state = first_record g p }
 abbrev pub moves_of : ℕ → List Move → ℕ
 moves_of p log = count_by (λ m. worker_of m == p) log
 
--- Each of these moves is a turn or a leave of one of the workers, and no move is a halt. A worker that is halted on
--- registers takes no further step.
+-- Each of these moves is a turn or a leave of one of the workers, and no move is a halt. A worker
+-- that is halted on registers takes no further step.
 pub record AreOwn (g : Givens) (log : List Move) : Type 0 where
   pub range : are_in_range g log ≡ true
   pub no_stop : has_halt log ≡ false

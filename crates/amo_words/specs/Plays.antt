@@ -1,6 +1,6 @@
--- Within this crate, but for `HasTurned` and `HasLeft`, which callers read: the change of a handle by each kind of step. A
--- kind is stated by cases on the role of the handle's view. Nothing is stated for the roles that never make such a step, so
--- no such step teaches them anything.
+-- Within this crate, but for `HasTurned` and `HasLeft`, which callers read: the change of a handle
+-- by each kind of step. A kind is stated by cases on the role of the handle's view. Nothing is
+-- stated for the roles that never make such a step, so no such step teaches them anything.
 use Rattle.std.specs.Prelude.{◌≡◌, ℕ, ◌+◌, ◌-◌, List, [], ◌∷◌, ◌++◌, slice_set, nat_lt, if◌then◌else◌, true, false, Option, Some, None, replicate, ⊤}
 use mathlib.Core.Option.{some}
 use lib.ListN.{get_elem?}
@@ -35,9 +35,9 @@ machine_left l = record l { state = record_after_leave l.state }
 abbrev pub view_after : {P : Type 0} → View P → List Move → Move → LocalView → View P
 view_after v between m l = record v { seen = (v.seen ++ between) ++ m ∷ []; moves = []; role = Working l }
 
--- From the view v the worker with the machine l took a turn to the view w, n being the loaded value, or 0. Since its last
--- step only others have moved, all moves are turns and leaves, and a load gave the value that its register had in the world
--- just before.
+-- From the view v the worker with the machine l took a turn to the view w, n being the loaded
+-- value, or 0. Since its last step only others have moved, all moves are turns and leaves, and a
+-- load gave the value that its register had in the world just before.
 pub record HasTurned {P : Type 0} (v : View P) (l : LocalView) (n : ℕ) (w : View P) : Type 0 where
   pub between : List Move
   pub others : moves_of l.number between ≡ 0
@@ -139,8 +139,8 @@ joined own role = own
 abbrev pub both_views : {P : Type 0} → View P → View P → View P
 both_views v w = record v { moves = w.seen; role = joined v.role w.role }
 
--- The registry's load after a join. It learns a list of moves that begins with what it had seen and with what the worker
--- had seen. All its machines stand after that list.
+-- The registry's load after a join. It learns a list of moves that begins with what it had seen and
+-- with what the worker had seen. All its machines stand after that list.
 pub record HasMet {P : Type 0} (v : View P) (spots : List Spot) (w : View P) : Type 0 where
   pub leads : w ≡ record v { seen = w.seen; moves = [] }
   pub seen : StartsWith w.seen v.seen

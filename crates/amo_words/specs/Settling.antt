@@ -1,5 +1,5 @@
--- The jobs that closed registers and slots show, and the final accounting. Within this crate: `IsReadable`, `HaveRoom`,
--- `any_has`, `AreMarked` and `IsBlank`, by which it is filled.
+-- The jobs that closed registers and slots show, and the final accounting. Within this crate:
+-- `IsReadable`, `HaveRoom`, `any_has`, `AreMarked` and `IsBlank`, by which it is filled.
 use Rattle.std.specs.Prelude.{◌≡◌, ◌==◌, replicate, ℕ, zero, suc, ◌+◌, ◌<◌, ◌≤◌, Bool, true, false, ◌||◌, if◌then◌else◌, List, [], ◌∷◌, ◌++◌, length, map, get_or, Option, Some, vec_capacity}
 use Rattle.std.proofs.Common.{Vec, Global}
 use mathlib.Core.Option.{some}
@@ -59,7 +59,8 @@ dones_in_words g words = table g.workers (λ p. row_in g words p)
 abbrev pub claims_in_words : Givens → List ℕ → List (List ℕ)
 claims_in_words g words = table g.workers (λ p. row_in g words p ++ hand_in_words g words p)
 
--- The closed words of these givens can be read: all stand there, and they are those of some sound processes.
+-- The closed words of these givens can be read: all stand there, and they are those of some sound
+-- processes.
 pub record IsReadable {S : Type 0} (g : Givens) (c : Closed S Global) : Type 0 where
   pub full : IsFull c.words
   pub size : slots_len c.words ≡ word_count g
@@ -103,7 +104,8 @@ HasFree {P} g all payloads slots =
 abbrev pub AreMarked : Givens → List Process → List Bool → Type 0
 AreMarked g all marks = (k : ℕ) → k < g.jobs → get_or marks k false ≡ is_claimed all (k + 1)
 
--- The closed words and slots show a world after a list of turns and leavings that begins with what the book had seen.
+-- The closed words and slots show a world after a list of turns and leavings that begins with what
+-- the book had seen.
 pub record IsClosed {P : Type 0} (g : Givens) (payloads : List P) (seen : List Move) (spots : List Spot) (words : List ℕ) (slots : List (Option P)) : Type 0 where
   pub log : List Move
   pub turns : AreOwn g log
@@ -120,9 +122,10 @@ job_count lists = sum_by (λ xs. length xs) lists
 abbrev pub book_view : {P : Type 0} → Givens → List P → List Move → List Spot → View P
 book_view g payloads seen spots = record { givens = g; payloads = payloads; seen = seen; moves = []; role = Keeping spots }
 
--- The final accounting is whole. The table was closed with some registers and slots, when the registry's handle knew what
--- the registry knew. A list of turns and leaves that begins with what the registry had seen leads to a world that has these
--- registers, and in which the registry's machines stand. The lists, the ends and the free jobs are those of that world.
+-- The final accounting is whole. The table was closed with some registers and slots, when the
+-- registry's handle knew what the registry knew. A list of turns and leaves that begins with what
+-- the registry had seen leads to a world that has these registers, and in which the registry's
+-- machines stand. The lists, the ends and the free jobs are those of that world.
 pub record IsWhole {P : Type 0} (g : Givens) (payloads : List P) (seen : List Move) (spots : List Spot) (s : Settlement P) : Type 0 where
   pub key : Key P
   pub seat : ℕ
@@ -145,9 +148,9 @@ pub record IsWhole {P : Type 0} (g : Givens) (payloads : List P) (seen : List Mo
   pub enough : (p : ℕ) (l : LocalView) → IsBack spots p l → is_over l.state.phase ≡ true
       → bound g ≤ job_count (map (λ (v : Vec ℕ Global). v.items) s.dones.items)
 
--- The floor whose registry had these slot states and had seen these moves was closed, and c is what stood. It has the
--- registers and slots of the table between two steps, when the registry's handle knew what the registry knew. They show a
--- world to which the registry's moves lead.
+-- The floor whose registry had these slot states and had seen these moves was closed, and c is what
+-- stood. It has the registers and slots of the table between two steps, when the registry's handle
+-- knew what the registry knew. They show a world to which the registry's moves lead.
 pub record HasClosed {P : Type 0} (g : Givens) (payloads : List P) (seen : List Move) (spots : List Spot) (c : ClosedView P) : Type 0 where
   pub givens : c.givens ≡ g
   pub spots_are : c.spots ≡ spots
@@ -160,8 +163,9 @@ pub record HasClosed {P : Type 0} (g : Givens) (payloads : List P) (seen : List 
 abbrev pub IsWholeOf : {P : Type 0} → ClosedView P → Settlement P → Type 0
 IsWholeOf {P} c s = (g : Givens) (payloads : List P) (seen : List Move) (spots : List Spot) → HasClosed g payloads seen spots c → IsWhole g payloads seen spots s
 
--- The final accounting is read from the closed floor. The lists of each worker, lost or not, come from its registers, and
--- the ends from the slot states. The free jobs are those that the registers give to no worker.
+-- The final accounting is read from the closed floor. The lists of each worker, lost or not, come
+-- from its registers, and the ends from the slot states. The free jobs are those that the registers
+-- give to no worker.
 pub record IsReadFrom {P : Type 0} (c : ClosedView P) (s : Settlement P) : Type 0 where
   pub claims : map (λ (v : Vec ℕ Global). v.items) s.claims.items ≡ claims_in_words c.givens c.words
   pub dones : map (λ (v : Vec ℕ Global). v.items) s.dones.items ≡ dones_in_words c.givens c.words

@@ -36,13 +36,15 @@ IsWhyNotTaken (H.Changed number) known list cut = ¬ (BeginsWith known list)
 IsWhyNotTaken (H.List number why) known list cut = BeginsWith known list × IsRefused list cut (J.Refused number why)
 IsWhyNotTaken _ known list cut = ⊥
 
--- The reason why no round is begun by these answers is true: the one of this number is out of place. Out of memory says nothing.
+-- The reason why no round is begun by these answers is true: the one of this number is out of
+-- place. Out of memory says nothing.
 abbrev pub IsWhyNoneOpen : Halt → (journals : List (List Attempt)) → (findings : List Finding) → Type 0
 IsWhyNoneOpen H.Memory journals findings = Unit {0}
 IsWhyNoneOpen (H.Misplaced number) journals findings = IsOutOfPlace journals findings number
 IsWhyNoneOpen _ journals findings = ⊥
 
--- A round was begun if a line is open by the logs that were read, and none if no line is. By a worker that has the lock of the round.
+-- A round was begun if a line is open by the logs that were read, and none if no line is. By a
+-- worker that has the lock of the round.
 abbrev pub IsMade : Begun → Identity → (read : Option Logs) → Type 0
 IsMade (B.NothingOpen len) me read = (logs : Logs) × (read ≡ Some logs) × (open_by me logs ≡ [])
 IsMade B.Round me read = (logs : Logs) × (read ≡ Some logs) × (open_by me logs ≢ [])

@@ -24,7 +24,8 @@ has_no_seat worker header =
     then is_none (seat_of worker header.first header.workers header.givens.workers)
     else false
 
--- Whether a worker takes no part in a round: its part of it is over, since it has joined it before, or it has no seat there.
+-- Whether a worker takes no part in a round: its part of it is over, since it has joined it before,
+-- or it has no seat there.
 abbrev pub takes_no_part : (worker : ℕ) → (joined : Option ℕ) → RoundHeader → Bool
 takes_no_part worker joined header = has_joined joined header.round || has_no_seat worker header
 

@@ -29,7 +29,8 @@ Adds false old f texts new = logs_after old f texts ≡ None
 abbrev pub MayReadAll : (Phase → Type 0) → Identity → (last : Option RoundFile) → Logs → Type 0
 MayReadAll stands me last logs = (purpose : Purpose) × MayReadFor purpose × (last_for purpose ≡ last) × stands (ReadsFor me purpose logs [] all_logs)
 
--- If it might read all logs for a purpose, it is in the phase after these were read, and the others are left.
+-- If it might read all logs for a purpose, it is in the phase after these were read, and the others
+-- are left.
 abbrev pub ReadsTo : (before after : Phase → Type 0) → Identity → (last : Option RoundFile) → (first logs : Logs) → (counts : List Extent) → (left : List LogFile) → Type 0
 ReadsTo before after me last first logs counts left =
     (purpose : Purpose) → MayReadFor purpose → last_for purpose ≡ last → before (ReadsFor me purpose first [] all_logs)
@@ -40,7 +41,8 @@ abbrev pub ReadsLog : (before after : Phase → Type 0) → (last : Option Round
 ReadsLog before after last f old new counts more =
     (texts : List (List ℕ)) × (counted : Extent) × Moves before after (LogIs f last texts counted) × (logs_after old f texts ≡ Some new) × (more ≡ counts ++ counted ∷ [])
 
--- A call that returns whether it could read this log on: if it couldn't, the host's call failed, or the texts can't follow.
+-- A call that returns whether it could read this log on: if it couldn't, the host's call failed, or
+-- the texts can't follow.
 abbrev pub ReadsOne : Bool → (before after : Phase → Type 0) → LogFile → (old new : Logs) → Type 0
 ReadsOne true before after f old new = (texts : List (List ℕ)) × Moves before after (HasRead f texts) × (logs_after old f texts ≡ Some new)
 ReadsOne false before after f old new =

@@ -30,14 +30,16 @@ broken Fine = Broken
 broken Broken = Broken
 broken Lost = Lost
 
--- While it asks, a worker has this reason to go no further, and it is true: after a call that failed nothing is due. Without memory or the line it has called nothing.
+-- While it asks, a worker has this reason to go no further, and it is true: after a call that
+-- failed nothing is due. Without memory or the line it has called nothing.
 abbrev pub AsksNoMore : (Phase → Type 0) → Identity → Halt → Type 0
 AsksNoMore stands me H.Host = stands (Asks me BrokenStage)
 AsksNoMore stands me H.Memory = Lives stands
 AsksNoMore stands me H.NoLine = Lives stands
 AsksNoMore stands me _ = ⊥
 
--- A worker whose asking has failed is at the stage after a call that failed, or had no memory or no line.
+-- A worker whose asking has failed is at the stage after a call that failed, or had no memory or no
+-- line.
 abbrev pub HasFailedAsking : (Phase → Type 0) → Identity → Option Halt → Type 0
 HasFailedAsking stands me halt = stands (Asks me BrokenStage) ⊎ ((why : Halt) × (halt ≡ Some why) × AsksNoMore stands me why)
 
@@ -47,8 +49,9 @@ AsksAt stands me Fine halt st = stands (Asks me st)
 AsksAt stands me Broken halt st = ⊥
 AsksAt stands me Lost halt st = (st ≡ BrokenStage) × Lives stands × (why : Halt) × (halt ≡ Some why) × AsksNoMore stands me why
 
--- In a round, a worker has this true reason to make no further call. It may make none after an append that failed, and once a log couldn't be
--- read on. Without memory or the line it has called nothing.
+-- In a round, a worker has this true reason to make no further call. It may make none after an
+-- append that failed, and once a log couldn't be read on. Without memory or the line it has called
+-- nothing.
 abbrev pub WorksNoMore : (Phase → Type 0) → Halt → Type 0
 WorksNoMore stands H.Host = stands Ended
 WorksNoMore stands (H.Unread log) = stands Ended
@@ -62,8 +65,8 @@ WorksAt stands me jobs logs Fine halt st = (owes : Bool) × stands (Works me job
 WorksAt stands me jobs logs Broken halt st = (st ≡ BrokenStage) × (owes : Bool) × stands (Works me jobs BrokenStage owes logs)
 WorksAt stands me jobs logs Lost halt st = (st ≡ BrokenStage) × Lives stands × (why : Halt) × (halt ≡ Some why) × WorksNoMore stands why
 
--- A worker's work in a round has failed. It is at the stage after a call that failed, it may make no further call, or it had no memory or
--- no line.
+-- A worker's work in a round has failed. It is at the stage after a call that failed, it may make
+-- no further call, or it had no memory or no line.
 abbrev pub HasFailed : (Phase → Type 0) → Identity → (jobs : List ℕ) → Logs → Option Halt → Type 0
 HasFailed stands me jobs logs halt = ((owes : Bool) × stands (Works me jobs BrokenStage owes logs)) ⊎ ((why : Halt) × (halt ≡ Some why) × WorksNoMore stands why)
 
@@ -83,7 +86,8 @@ HasPaid stands me jobs logs = (st : Stage) × stands (Works me jobs st false log
 abbrev pub IsAt : (Phase → Type 0) → (Logs → Phase) → Option Logs → Type 0
 IsAt stands phase read = (logs : Logs) × (read ≡ Some logs) × stands (phase logs)
 
--- The phase of a worker that is in no round and has asked for all earlier attempts, by the logs that it has read in earlier rounds.
+-- The phase of a worker that is in no round and has asked for all earlier attempts, by the logs
+-- that it has read in earlier rounds.
 abbrev pub idle_at : Identity → Option Logs → Phase
 idle_at me None = Asks me (Asking [])
 idle_at me (Some logs) = Idle me logs
@@ -94,7 +98,8 @@ reply_of_way (Some Go) = Stays
 reply_of_way (Some Leave) = Leaves
 reply_of_way None = Invalid
 
--- The reply to `over` that this line is, without its end. If no whole line came, the runner is gone.
+-- The reply to `over` that this line is, without its end. If no whole line came, the runner is
+-- gone.
 abbrev pub over_reply : Option (List ℕ) → OverReply
 over_reply (Some line) = reply_of_way (way_in line)
 over_reply None = Closed

@@ -26,7 +26,8 @@ use Rattle.amo_kk.specs.declared.event.Shown.TheVariants.{Quiet, Done as DoneSho
 use Rattle.amo_world.specs.declared.answer.Turned.{Turned}
 use Rattle.amo_world.specs.declared.answer.Turned.TheVariants.{Claimed, DoneEnded, Ended, Idle}
 
--- k turns of p alone lead from this world to that one, none of them claimed or ended p, and p isn't gone
+-- k turns of p alone lead from this world to that one, none of them claimed or ended p, and p isn't
+-- gone
 pub record IsUnderWay (g : Givens) (before : World) (p k : ℕ) (w : World) : Type 0 where
   pub leads : world_after_turns g before p k ≡ w
   pub none : (i : ℕ) → i < k → claims_or_ends g (world_after_turns g before p i) p ≡ false

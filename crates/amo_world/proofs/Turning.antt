@@ -1,4 +1,5 @@
--- The facts about the fields of a world before and after a turn, a halt and a leave of a worker that isn't gone.
+-- The facts about the fields of a world before and after a turn, a halt and a leave of a worker
+-- that isn't gone.
 use Rattle.std.proofs.Common.{◌≡◌, ⊎_elim, ℕ, ◌+◌, ◌-◌, ◌<◌, ◌≤◌, Bool, true, false, List, [], ◌∷◌, ◌++◌, map, length, get_or, set, sym, ap, ◌∙◌, subst, arith, length-append}
 use Rattle.std.specs.Prelude.{if◌then◌else◌}
 use Rattle.std.proofs.lemmas.Bool.{true≢false, cases_Bool, cases_eq}

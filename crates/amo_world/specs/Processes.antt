@@ -1,4 +1,5 @@
--- Within this crate: the processes of the code as those of the definitions, and what holds of the fields of a world.
+-- Within this crate: the processes of the code as those of the definitions, and what holds of the
+-- fields of a world.
 use Rattle.std.specs.Prelude.{◌≡◌, ℕ, ◌<◌, ◌+◌, ◌*◌, List, length, map, get_or}
 use Rattle.std.specs.Vec.{vec_capacity}
 use Rattle.amo_kk.specs.Lawful.{IsLawful, HasRun}
@@ -28,16 +29,16 @@ pub record IsSameWorker (before after : OwnProcess) : Type 0 where
 abbrev pub world_of_processes : List OwnProcess → List Event → World
 world_of_processes processes history = record { processes = map process_of processes; history = history }
 
--- The processes are those of the workers 1..n in their order. Each has a machine of these givens, and exactly the room for
--- the row that such a worker can have.
+-- The processes are those of the workers 1..n in their order. Each has a machine of these givens,
+-- and exactly the room for the row that such a worker can have.
 pub record AreInOrder (g : Givens) (n : ℕ) (processes : List OwnProcess) : Type 0 where
   pub size : length processes ≡ n
   pub givens : (k : ℕ) (s : OwnProcess) → k < length processes → (get_or processes k s).local.givens ≡ g
   pub number : (k : ℕ) (s : OwnProcess) → k < length processes → (get_or processes k s).local.number ≡ k + 1
   pub room : (k : ℕ) (s : OwnProcess) → k < length processes → vec_capacity (get_or processes k s).row ≡ g.jobs + 1
 
--- The world is lawful, its history is a run, and there is room for all processes and for all events that a run can have,
--- and no more.
+-- The world is lawful, its history is a run, and there is room for all processes and for all events
+-- that a run can have, and no more.
 pub record IsKept (g : Givens) (processes : List OwnProcess) (history : List Event) (processes_room history_room : ℕ) : Type 0 where
   pub in_order : AreInOrder g g.workers processes
   pub lawful : IsLawful g (world_of_processes processes history)

@@ -8,8 +8,8 @@ use Rattle.amo_kk.specs.declared.model.World.{World}
 use Rattle.amo_world.specs.declared.answer.Alone.{Alone}
 use Rattle.amo_world.specs.Answer.{alone_answer}
 
--- Turns of p alone lead from one world to the other: the last one, and no other, claims a job or ends p, and answers
--- which. So many others come before it.
+-- Turns of p alone lead from one world to the other: the last one, and no other, claims a job or
+-- ends p, and answers which. So many others come before it.
 pub record RunsAlone (g : Givens) (before : World) (p : ℕ) (after : World) (answer : Alone) : Type 0 where
   pub others : ℕ
   pub soon : others < lone_bound g

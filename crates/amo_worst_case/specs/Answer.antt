@@ -22,8 +22,8 @@ worst_of p =
     then too_many_moves (length (worst_moves p.givens))
     else (if nat_lt MOST_BYTES (length (plan_text p)) then too_many_bytes (length (worst_moves p.givens)) (length (plan_text p)) else plan_text p)
 
--- the plan that this text is of: the same jobs, workers and threshold, with the worst moves, and no rounds; its budgets, which a run
--- alone has, are those of a plan that names none
+-- the plan that this text is of: the same jobs, workers and threshold, with the worst moves, and no
+-- rounds; its budgets, which a run alone has, are those of a plan that names none
 abbrev pub worst_plan : PlanSeen → PlanSeen
 worst_plan p = record p { moves = worst_moves p.givens; rounds = 0; budgets = replicate p.givens.workers USUAL_BUDGET }
 

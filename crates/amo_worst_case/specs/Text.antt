@@ -1,5 +1,5 @@
--- The text of the plan that has the jobs of another and the worst schedule. Keys stand in the order of the alphabet, as TOML's own
--- writer has them, and texts in the form that it picks.
+-- The text of the plan that has the jobs of another and the worst schedule. Keys stand in the order
+-- of the alphabet, as TOML's own writer has them, and texts in the form that it picks.
 use Rattle.std.specs.Prelude.{ℕ, List, [], ◌∷◌, ◌++◌, ◌==◌, if◌then◌else◌, codes}
 use Rattle.std.specs.Fmt.{decimal}
 use Rattle.std.specs.List.{flat_map}

@@ -1,4 +1,5 @@
--- `run_crew`: the premises of its calls and its promises, by the lemmas of Crews, Outputs and Starts.
+-- `run_crew`: the premises of its calls and its promises, by the lemmas of Crews, Outputs and
+-- Starts.
 use Rattle.std.proofs.Common.{List, ◌++◌, length, sym, ap, ◌∙◌, subst, arith}
 use Rattle.amo_words.specs.declared.rule.Spot.{Spot}
 use Rattle.amo_words.specs.Faces.{spots}

@@ -1,4 +1,5 @@
--- `lone_run`: no overflow, the premises of its calls and its promises, by the lemmas of ReachedWorlds and Stopped.
+-- `lone_run`: no overflow, the premises of its calls and its promises, by the lemmas of
+-- ReachedWorlds and Stopped.
 use Rattle.std.proofs.Common.{◌≡◌, ◌-◌, ap, sym, subst, ◌∙◌, arith}
 use Rattle.amo_givens.specs.Givens.{IsWorker, lone_bound}
 use Rattle.amo_kk.specs.Alone.{world_after_turns}

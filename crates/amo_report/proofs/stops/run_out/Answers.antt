@@ -1,4 +1,5 @@
--- `run_out`: the premises of its calls and what its loop keeps, by the lemmas of ReachedWorlds and Stopped.
+-- `run_out`: the premises of its calls and what its loop keeps, by the lemmas of ReachedWorlds and
+-- Stopped.
 use Rattle.std.proofs.Common.{◌+◌, ◌*◌, ◌≤◌, sym, ◌∙◌, arith}
 use Rattle.amo_report.specs.Reached.{most_before_a_claim, most_before_an_end}
 use Rattle.amo_report.specs.Stops.{LoneRun, after_lone_runs}

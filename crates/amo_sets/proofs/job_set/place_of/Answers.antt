@@ -1,4 +1,5 @@
--- `place_of`: the premises of its calls, what its loop keeps and its promises, by the lemmas of Tally and Words.
+-- `place_of`: the premises of its calls, what its loop keeps and its promises, by the lemmas of
+-- Tally and Words.
 use Rattle.std.proofs.Common.{rules, arith, add-one, ◌≡◌, ◌≢◌, ◌+◌, ◌∙◌, true, ℕ, ap, sym, eq-eqb, ne_eqb}
 use Rattle.std.specs.Prelude.{if◌then◌else◌, ◌==◌}
 use Rattle.std.specs.Int.{bit_at}

@@ -1,4 +1,5 @@
--- `collect_all`: the premises of its calls, what its loop keeps and its promises, by the lemmas of Collects and Told.
+-- `collect_all`: the premises of its calls, what its loop keeps and its promises, by the lemmas of
+-- Collects and Told.
 use Rattle.std.proofs.Common.{◌≡◌, ℕ, suc, ◌+◌, ◌-◌, [], ◌∷◌, ◌++◌, length, Some, refl, sym, ap, ◌∙◌, subst, arith}
 use Rattle.std.proofs.lemmas.List.{length_push}
 use Rattle.std.proofs.lemmas.List.Elements.{All-pop}

@@ -1,5 +1,5 @@
--- `Knowledge::choose`: the premises of its calls and its promises, by the lemmas of Numbers (amo_sets), Sets (amo_sets)
--- and OpenJobs.
+-- `Knowledge::choose`: the premises of its calls and its promises, by the lemmas of Numbers
+-- (amo_sets), Sets (amo_sets) and OpenJobs.
 use Rattle.std.proofs.Common.{◌≡◌, ◌∙◌, ap, sym, length, arith}
 use Rattle.amo_sets.specs.Lists.{numbered}
 use Rattle.amo_sets.specs.Sets.{set_of_bits}

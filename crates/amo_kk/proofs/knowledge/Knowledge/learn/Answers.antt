@@ -1,4 +1,5 @@
--- `Knowledge::learn`: what its type keeps and its promises, by the lemmas of Numbers (amo_sets) and OpenJobs.
+-- `Knowledge::learn`: what its type keeps and its promises, by the lemmas of Numbers (amo_sets) and
+-- OpenJobs.
 use Rattle.std.proofs.Common.{◌≡◌, ◌≤◌, ap, sym, ◌∙◌, subst, length, false}
 use Rattle.amo_sets.specs.Sets.{with_number, set_of_bits}
 use Rattle.amo_sets.proofs.Numbers.{length-put}

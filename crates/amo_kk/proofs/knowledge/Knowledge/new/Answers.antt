@@ -1,4 +1,5 @@
--- `Knowledge::new`: what its type keeps and its promises, by the lemmas of Sets (amo_sets) and OpenJobs.
+-- `Knowledge::new`: what its type keeps and its promises, by the lemmas of Sets (amo_sets) and
+-- OpenJobs.
 use Rattle.std.proofs.Common.{◌≡◌, [], ap, sym, ◌∙◌, length, true, false}
 use Rattle.std.proofs.lemmas.List.{length-replicate}
 use Rattle.amo_sets.specs.Sets.{set_of_bits}

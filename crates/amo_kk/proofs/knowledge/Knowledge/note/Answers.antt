@@ -1,5 +1,5 @@
--- `Knowledge::note`: what its type keeps and its promises, by the lemmas of Numbers (amo_sets), Sets (amo_sets) and
--- OpenJobs.
+-- `Knowledge::note`: what its type keeps and its promises, by the lemmas of Numbers (amo_sets),
+-- Sets (amo_sets) and OpenJobs.
 use Rattle.std.proofs.Common.{◌≡◌, ◌≤◌, ℕ, List, ap, sym, ◌∙◌, subst, length, true, arith}
 use Rattle.std.specs.Prelude.{if◌then◌else◌}
 use Rattle.std.proofs.lemmas.Bool.{ne_eqb}

@@ -1,4 +1,5 @@
--- `JobSet::add`: no overflow, the premises of its calls, what its type keeps and its promises, by the lemmas of Shown.
+-- `JobSet::add`: no overflow, the premises of its calls, what its type keeps and its promises, by
+-- the lemmas of Shown.
 use Rattle.std.proofs.Common.{◌-◌, ◌%◌, ◌*◌, ◌^◌, ℕ, true, bit_or, sym, ◌∙◌, arith}
 use Rattle.amo_sets.proofs.Shown.{with_stranger, word_of, WritesJob, adds_job, shown_written, spare_written, count_added}
 use Rattle.amo_sets.proofs.job_set.JobSet.add.Goals as goal

@@ -1,4 +1,5 @@
--- `JobSet::clear`: what its type keeps and its promises, by the lemmas of Tables, Numbers, Words and Shown.
+-- `JobSet::clear`: what its type keeps and its promises, by the lemmas of Tables, Numbers, Words
+-- and Shown.
 use Rattle.std.proofs.Common.{◌≡◌, vec_len, ℕ, replicate, false, rules, ap, sym, ◌∙◌}
 use Rattle.amo_sets.specs.Bits.{bit}
 use Rattle.amo_sets.proofs.Tables.{table_constant}

@@ -1,5 +1,5 @@
--- `JobSet::count_without`: no overflow, the premises of its calls, what its loop keeps and its promises, by the lemmas of
--- Shown, Tally and Without.
+-- `JobSet::count_without`: no overflow, the premises of its calls, what its loop keeps and its
+-- promises, by the lemmas of Shown, Tally and Without.
 use Rattle.std.proofs.Common.{rules, arith, ◌*◌, ◌+◌, ◌∙◌, sym}
 use Rattle.amo_sets.specs.Bits.{is_without}
 use Rattle.amo_sets.proofs.Shown.{length_of}

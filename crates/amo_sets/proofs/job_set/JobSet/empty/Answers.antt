@@ -1,4 +1,5 @@
--- `JobSet::empty`: what its type keeps and its promises, by the lemmas of Tables, Numbers and Words.
+-- `JobSet::empty`: what its type keeps and its promises, by the lemmas of Tables, Numbers and
+-- Words.
 use Rattle.std.proofs.Common.{◌≡◌, ◌+◌, ◌/◌, ℕ, false, sym, rules}
 use Rattle.amo_sets.specs.Bits.{bit}
 use Rattle.amo_sets.proofs.Tables.{table_constant}

@@ -1,5 +1,5 @@
--- `JobSet::rank_without`: no overflow, the premises of its calls, what its loop keeps and its promises, by the lemmas of
--- Numbers, Ranks, Shown, Tally and Without.
+-- `JobSet::rank_without`: no overflow, the premises of its calls, what its loop keeps and its
+-- promises, by the lemmas of Numbers, Ranks, Shown, Tally and Without.
 use Rattle.std.proofs.Common.{rules, arith, ⊎_elim, refl, true≢false, ◌≡◌, ◌<◌, ◌*◌, ◌+◌, length, sym, inl, inr}
 use Rattle.amo_sets.specs.Bits.{is_without}
 use Rattle.amo_sets.specs.Rank.{count}

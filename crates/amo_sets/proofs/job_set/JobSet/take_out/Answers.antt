@@ -1,5 +1,5 @@
--- `JobSet::take_out`: no overflow, the premises of its calls, what its type keeps and its promises, by the lemmas of
--- Shown.
+-- `JobSet::take_out`: no overflow, the premises of its calls, what its type keeps and its promises,
+-- by the lemmas of Shown.
 use Rattle.std.proofs.Common.{◌-◌, ◌%◌, ◌*◌, ◌^◌, ℕ, false, bit_and, w64, sym, ◌∙◌, arith}
 use Rattle.std.specs.Int.{bit_not}
 use Rattle.amo_sets.proofs.Shown.{with_member, word_of, WritesJob, takes_job, shown_written, spare_written, count_taken}

@@ -1,4 +1,5 @@
--- `JobSet::word_without`: the premises of its calls and its promises, by the lemmas of Shown and Without.
+-- `JobSet::word_without`: the premises of its calls and its promises, by the lemmas of Shown and
+-- Without.
 use Rattle.std.proofs.Common.{rules, arith, not, ◌&&◌, ◌∙◌}
 use Rattle.amo_sets.proofs.Shown.{length_of, bit_read}
 use Rattle.amo_sets.proofs.Without.{and_not_bit}

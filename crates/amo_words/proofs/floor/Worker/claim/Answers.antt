@@ -1,5 +1,5 @@
--- `Worker::claim`: the premises of its calls, what its type keeps and its promises, by the lemmas of Holding (amo_kk),
--- Wants (amo_kk), Workers and Moves.
+-- `Worker::claim`: the premises of its calls, what its type keeps and its promises, by the lemmas
+-- of Holding (amo_kk), Wants (amo_kk), Workers and Moves.
 use Rattle.std.proofs.Common.{◌≡◌, ◌-◌, ap, sym, ◌∙◌, set, subst, Some, slice_get}
 use Rattle.amo_kk.specs.Step.{want}
 use Rattle.amo_kk.specs.Words.{claim_word}

@@ -1,4 +1,5 @@
--- `Worker::hear`: the premises of its calls and what its type keeps, by the lemmas of Workers and Moves.
+-- `Worker::hear`: the premises of its calls and what its type keeps, by the lemmas of Workers and
+-- Moves.
 use Rattle.std.proofs.Common.{◌≡◌, ap, sym, ◌∙◌, subst, true}
 use Rattle.amo_kk.specs.Step.{want, is_load, MayLoad}
 use Rattle.amo_kk.specs.Words.{loaded_word}

@@ -1,5 +1,5 @@
--- `Worker::store_done`: the premises of its calls and what its type keeps, by the lemmas of Holding (amo_kk), Workers and
--- Moves.
+-- `Worker::store_done`: the premises of its calls and what its type keeps, by the lemmas of Holding
+-- (amo_kk), Workers and Moves.
 use Rattle.std.proofs.Common.{◌≡◌, arith, refl, ap, ◌∙◌, set}
 use Rattle.amo_kk.specs.Step.{want}
 use Rattle.amo_kk.specs.Words.{done_word}

@@ -1,4 +1,5 @@
--- `Worker::take_back`: the premises of its calls and what its type keeps, by the lemmas of Workers and Moves.
+-- `Worker::take_back`: the premises of its calls and what its type keeps, by the lemmas of Workers
+-- and Moves.
 use Rattle.std.proofs.Common.{◌≡◌, ap, sym, ◌∙◌, true}
 use Rattle.amo_kk.specs.Record.{can_leave}
 use Rattle.amo_kk.specs.Machine.{LocalView}

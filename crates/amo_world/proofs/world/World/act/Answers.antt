@@ -1,4 +1,5 @@
--- `World::act`: the premises of its calls, what its type keeps and its promises, by the lemmas of Turning.
+-- `World::act`: the premises of its calls, what its type keeps and its promises, by the lemmas of
+-- Turning.
 use Rattle.std.proofs.Common.{sym, subst, ap, ◌∙◌, set, ◌-◌, List}
 use Rattle.std.specs.Prelude.{if◌then◌else◌}
 use Rattle.std.specs.Vec.{vec_capacity}

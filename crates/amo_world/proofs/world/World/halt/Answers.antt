@@ -1,4 +1,5 @@
--- `World::halt`: the premises of its calls, what its type keeps and its promises, by the lemmas of Turning.
+-- `World::halt`: the premises of its calls, what its type keeps and its promises, by the lemmas of
+-- Turning.
 use Rattle.std.proofs.Common.{◌≡◌, true, false, refl, sym, subst, ap, ◌∙◌, arith, set, ◌-◌, List}
 use Rattle.std.specs.Vec.{vec_capacity}
 use Rattle.amo_givens.specs.Givens.{IsWorker}

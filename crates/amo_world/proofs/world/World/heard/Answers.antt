@@ -1,4 +1,5 @@
--- `World::heard`: the premises of its calls and its promises, directly from definitions and clauses.
+-- `World::heard`: the premises of its calls and its promises, directly from definitions and
+-- clauses.
 use Rattle.std.proofs.Common.{ap, subst, ◌∙◌}
 use Rattle.amo_kk.specs.Fits.{WantFits}
 use Rattle.amo_kk.specs.Step.{want}

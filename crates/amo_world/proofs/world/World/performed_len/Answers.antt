@@ -1,4 +1,5 @@
--- `World::performed_len`: the premises of its calls and its promises, by the lemmas of Counts (amo_kk).
+-- `World::performed_len`: the premises of its calls and its promises, by the lemmas of Counts
+-- (amo_kk).
 use Rattle.std.proofs.Common.{◌<◌, ◌^◌, ap, sym, subst, ◌∙◌, length}
 use Rattle.amo_kk.specs.Run.{done_jobs}
 use Rattle.amo_world.specs.Views.{WorldView}

@@ -1,4 +1,5 @@
--- `World::unclaimed_len`: no overflow, the premises of its calls and its promises, by the lemmas of Counts (amo_kk).
+-- `World::unclaimed_len`: no overflow, the premises of its calls and its promises, by the lemmas of
+-- Counts (amo_kk).
 use Rattle.std.proofs.Common.{◌≡◌, ◌<◌, ◌^◌, ◌+◌, ◌-◌, ℕ, List, ap, sym, subst, ◌∙◌, length, arith}
 use Rattle.amo_kk.specs.Object.{first_object}
 use Rattle.amo_kk.specs.Run.{IsRun, object_after_all, claimed_jobs}
