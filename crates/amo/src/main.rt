@@ -1,8 +1,10 @@
-//! Replays and runs plans, which are read from standard input. `amo replay` writes the report of
-//! the plan's replay, `amo run` what comes of its jobs where workers in threads perform them, `amo
-//! check` its check text, `amo explore FROM COUNT LENGTH` what numbered schedules of one length
-//! lead to, and `amo stops P` what becomes of the plan where worker P stops after each of its first
-//! moves.
+//! The program `amo`: it reads a plan from standard input, and writes one text about it.
+//!
+//! - `amo replay`: the report of the plan's replay.
+//! - `amo run`: the outcome of its jobs, performed by workers in threads.
+//! - `amo check`: its check text.
+//! - `amo explore FROM COUNT LENGTH`: the results of numbered schedules of one length.
+//! - `amo stops P`: the results of a stop of worker P after each of its first moves.
 #![tactic(auto)]
 
 use amo_cli::serve_words;

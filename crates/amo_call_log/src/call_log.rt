@@ -131,7 +131,7 @@ pub(crate) fn recovered<'a>(appends: &'a Result<Vec<Vec<u8>>, Failed>) -> Words<
     }
 }
 
-/// Returns the words of what the runner has replied.
+/// Returns the words of the runner's reply.
 pub(crate) fn heard<'a>(reply: &'a Result<Option<Vec<u8>>, Failed>) -> Words<'a> {
     match reply {
         Ok(Some(line)) => Words::Text(line),

@@ -3,7 +3,7 @@ use amo_run_dir::Fault;
 use std::alloc::AllocError;
 use std::io;
 
-/// Why a command ends before it has done what it was asked for.
+/// The reason that a command ends before its work is done.
 #[derive(Drop)]
 pub enum End {
     Fault(Fault),

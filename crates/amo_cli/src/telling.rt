@@ -1,4 +1,4 @@
-//! Tells of a fault, in one line, and answers its exit status.
+//! Reports a fault, in one line, and returns its exit status.
 ghost use Rattle.std.specs.Prelude.{◌≡◌, ◌≤◌, false};
 ghost use Rattle.amo_cli.specs.Endings.{Says, IsTold, change};
 

@@ -8,8 +8,8 @@ use amo_givens::Givens;
 use amo_mailbox::{Inlet, Outlet, Queue, outlets};
 use std::alloc::{AllocError, Global};
 
-/// The needs of a run beside the shared state and the registry: the queue, and lists with enough
-/// room. Once a thread was started, nothing takes memory before the final accounting.
+/// The needs of a run, apart from the shared state and the registry: the queue, and lists with
+/// enough room. Once a thread was started, nothing takes memory before the final accounting.
 #[derive(Drop)]
 pub(crate) struct Kit<P, Out> {
     pub queue: Queue<Out>,

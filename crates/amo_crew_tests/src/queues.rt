@@ -31,7 +31,7 @@ pub(super) fn put_jobs<R: Wait>(
     }
 }
 
-/// Takes until there is no more, or this many were taken. Answers how many.
+/// Takes until there is no more, or this many were taken. Returns how many.
 pub(super) fn take_jobs<R: Wait>(
     rt: &R,
     queue: &Queue<u32>,

@@ -13,7 +13,7 @@ pub enum JobResult {
     Doubt,
     /// It was certainly not begun.
     Unbegun,
-    /// It ended with this code, by which it says that it did nothing.
+    /// It ended with this code, which means that it did nothing.
     Untouched(u8),
 }
 

@@ -74,7 +74,7 @@ impl Life {
         }
     }
 
-    /// Loads this word, and lets the process hear its value.
+    /// Loads this word, and gives the process its value.
     fn load<O: Outside>(&mut self, word: u64, outside: &mut O) -> Result<(), Stop>
         requires goes { IsGoing (O.stands outside.old) self.old }
         requires wanted { access_of self.old.process.givens self.old.process.number self.old.process.standing ≡ Load word }
@@ -183,7 +183,7 @@ impl Life {
         self.hear(reply, outside)
     }
 
-    /// Hears what came in answer to the intent.
+    /// Takes the reply on the intent.
     fn hear<O: Outside>(&mut self, reply: Reply, outside: &mut O) -> Result<Option<LifeEnd>, Stop>
         requires performed { O.stands outside.old (stage_replied self.old.next self.old.process reply) }
         requires fine { is_refused self.old.process.standing ≡ false }

@@ -33,8 +33,8 @@ pub trait Outside {
         ensures fails { OnErr result (Moves (stands self.old) (stands self.new) (Fell (Store word value))) }
         ensures counts { Counts (has_done self.old) (has_done self.new) };
 
-    /// Hears that the worker's own words show this job claimed and not filed. It is filed next, and
-    /// never performed.
+    /// Takes the report that the worker's own words show this job claimed and not filed. It is
+    /// filed next, and never performed.
     fn found(&mut self, job: u32) -> Result<(), Failed>
         requires { MayCall (stands self.old) (Find job) }
         ensures done { OnOk result (Moves (stands self.old) (stands self.new) (Found job)) }
@@ -58,7 +58,7 @@ pub trait Outside {
         ensures fails { OnErr result (Moves (stands self.old) (stands self.new) (Fell (Clear serial job))) }
         ensures counts { Counts (has_done self.old) (has_done self.new) };
 
-    /// Has the partner perform this job, and waits for what comes in answer.
+    /// Has the partner perform this job, and waits for the reply.
     fn perform(&mut self, serial: u64, job: u32) -> Result<Reply, Failed>
         requires { MayCall (stands self.old) (Perform serial job) }
         ensures done { IfOk result (λ reply. Moves (stands self.old) (stands self.new) (Performed serial job reply)) }

@@ -39,7 +39,7 @@ pub trait Past {
     /// be at any stage.
     ghost stands: { Self → Stage → Type 0 };
 
-    /// Asks the partner what became of an intent, and waits for what comes in answer.
+    /// Asks the partner for the result of an intent, and waits for the reply.
     fn was(&mut self, serial: u64, line: u64) -> Result<Reply, Failed>
         requires { MayCall (stands self.old) (Ask serial line) }
         ensures done { IfOk result (λ reply. Moves (stands self.old) (stands self.new) (AskedDeed serial line reply)) }
@@ -88,7 +88,7 @@ fn ask<P: Past>(pending: &[Intent], k: usize, past: &mut P) -> Result<Option<Ask
     hear(pending, k, intent, reply, past)
 }
 
-/// Hears what came in answer for this intent, the one at place k.
+/// Takes the reply for this intent, the one at place k.
 fn hear<P: Past>(
     pending: &[Intent],
     k: usize,

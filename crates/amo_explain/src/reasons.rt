@@ -32,7 +32,7 @@ fn push_reason(
     }
 }
 
-/// Returns why these bytes are no plan, as this fault says it.
+/// Returns the reason why these bytes are not a plan, in the words of this fault.
 pub(crate) fn reason_of(
     alloc: Global,
     bytes: &[u8],

@@ -1,4 +1,4 @@
-//! The operating system, and what a process of the run asks of it.
+//! The operating system, and the calls of a process of the run on it.
 ghost use Rattle.std.specs.Prelude.{◌≡◌, List, map, option_map, IfOk, OnOk, OnErr};
 ghost use Rattle.amo_host.specs.Calls.{TryLock, Unlock, CheckFolder, SyncFolder, ReadBoot, ReadRound, Recover, ReadJobs, OpenRegisters, ReadLog, ReadList, MakeJobs, MakeRound, MakeRegisters, LoadRegister, StoreRegister, PassOver, Put, Owe, Pay, ReadOn, Say};
 ghost use Rattle.amo_host.specs.Calls.{Tried, HasUnlocked, FolderIsKept, FolderIsSynced, BootIs, RoundIs, Recovered, JobsAre, RegistersAre, LogIs, ListIs, JobsAreMade, RoundIsMade, RegistersAreMade, Loaded, Stored, PassedOver, HasPut, HasOwed, HasPaid, HasRead, Heard, Fell};
@@ -179,7 +179,7 @@ pub trait Host {
     /// persons, and the protocol doesn't speak of it.
     fn now(&self) -> u64;
 
-    /// Tells a person that a line isn't handed over, and which attempt stands against it. The
-    /// protocol doesn't speak of it.
+    /// Reports to a person that a line isn't handed over, and which attempt stands against it. The
+    /// protocol leaves it out.
     fn tell_taken(&self, line: u64, other: AttemptId);
 }

@@ -15,7 +15,8 @@ pub enum LogFile {
 pub enum RunLock {
     /// The guard of a worker's number: the lock on its journal.
     Guard(u64),
-    /// The lock of the round: shared by all who work in it, exclusive for who begins the next.
+    /// The lock of the round: shared by all workers in it, exclusive for the worker that begins the
+    /// next.
     Round,
 }
 

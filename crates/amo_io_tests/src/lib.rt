@@ -1,5 +1,5 @@
-//! Tests of `amo_io` over what is compiled for use: reading all and making a room where memory is
-//! refused, and that a room takes none as it fills.
+//! Tests of `amo_io` as it is compiled for use: reading all and making a room if memory is refused,
+//! and a room that takes none as it fills.
 #![tactic(auto)]
 
 #[cfg(test)]

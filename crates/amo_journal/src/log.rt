@@ -166,7 +166,7 @@ fn records_in<'a>(before: &Checksum, line: &'a [u8]) -> Option<(&'a [u8], Checks
     }
 }
 
-/// Returns what is wrong with the bytes that follow the last append, if anything is.
+/// Returns the kind of damage in the bytes that follow the last append, if there is damage.
 fn wrong_end(rest: &[u8]) -> Option<DamageKind>
     requires { (line : List ℕ) → rest.now ≡ 43 ∷ line → IsOneLine line }
     ensures none { IfNone result (IsCutOff rest.now) }

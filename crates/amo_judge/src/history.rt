@@ -132,7 +132,7 @@ impl<'a> History<'a> {
         Ok(())
     }
 
-    /// Adds the event of a line, or returns what is wrong with the line.
+    /// Adds the event of a line, or returns the fault of the line.
     pub(crate) fn add(&mut self, alloc: Global, line: &'a [u8]) -> Result<Option<Wrong>, AllocError>
         ensures { IfOk result (λ wrong. with_line self.old line.now ≡ found_or wrong (λ w. Err w) (Ok self.new)) }
     {

@@ -10,8 +10,8 @@ use crate::queue::{PLACES, Passes, Queue, Ring};
 use amo_givens::Givens;
 use std::alloc::{AllocError, Global};
 
-/// Returns a queue, its inlet and its outlets, for so many jobs and workers. The only error is out
-/// of memory.
+/// Returns a queue, its inlet and its outlets, for so many jobs and workers. Fails if there was no
+/// memory.
 fn outlets_for<Out: Drop>(
     alloc: Global,
     jobs: u32,

@@ -1,4 +1,4 @@
-//! The operating system, and what an operator's command asks of it.
+//! The operating system, and the calls of an operator's command on it.
 ghost use Rattle.std.specs.Prelude.{map, option_map, IfOk, OnOk, OnErr};
 ghost use Rattle.amo_operator.specs.Calls.{TryLock, Unlock, UnlockAll, CheckFolder, ReadRound, ReadLog, Recover, ReadJobs, ReadClock, PutDoubt, RemoveCommandFile, PutAnswer, Print};
 ghost use Rattle.amo_operator.specs.Calls.{Tried, HasUnlocked, HasUnlockedAll, FolderIsKept, RoundIs, LogIs, Recovered, JobsAre, TimeIs, HasPutDoubt, HasRemoved, HasPutAnswer, HasPrinted, Fell};

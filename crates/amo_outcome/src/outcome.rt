@@ -1,4 +1,4 @@
-//! The text of what came of a run.
+//! The text of the outcome of a run.
 ghost use Rattle.std.specs.Prelude.{◌≡◌, ◌++◌, ◌≤◌, ◌<◌, ◌^◌, ℕ, OnOk, IfOk, string_bytes, length};
 ghost use Rattle.amo_outcome.specs.Became.{listed};
 ghost use Rattle.amo_outcome.specs.Noted.{noted_fate};

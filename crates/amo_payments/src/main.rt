@@ -1,7 +1,9 @@
-//! Makes the payments of a day, each at most once: `amo_payments JOURNAL BANK < DAY` reads them
-//! from standard input, keeps their journal in the file JOURNAL, and writes to standard output what
-//! became of each. BANK is a file that stands for a bank: each payment that is given adds a line to
-//! it. All that it does with them stands in `amo_example_payments`.
+//! The program `amo_payments`: it makes the payments of a day, each at most once.
+//!
+//! `amo_payments JOURNAL BANK < DAY` reads them from standard input, keeps their journal in the
+//! file JOURNAL, and writes to standard output what became of each. BANK is a file that stands for
+//! a bank: each payment that is given adds a line to it. The work itself is in
+//! `amo_example_payments`.
 #![tactic(auto)]
 
 ghost use Rattle.std.specs.Prelude.{◌≡◌, ◌≤◌};

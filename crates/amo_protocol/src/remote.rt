@@ -96,8 +96,8 @@ impl<W: Wire> Outside for Lines<W> {
     }
 }
 
-/// Returns true if this line says that a job may be handed over, false if it says that the job is
-/// taken, and none if it says neither.
+/// Returns true for the line that a job may be handed over, false for the line that the job is
+/// taken, and `None` for any other line.
 fn clear_in(line: &[u8]) -> Option<bool>
     ensures { result ≡ clear_in line.now }
 {

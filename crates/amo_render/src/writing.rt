@@ -41,7 +41,7 @@ impl From<AllocError> for ReplayFault {
 ///
 /// # Errors
 ///
-/// `Plan(f)` exactly if the bytes give the fault f, unless f is want of memory. `Memory` if there
+/// `Plan(f)` exactly if the bytes give the fault f, unless f is want of memory. `NoMemory` if there
 /// was no memory.
 pub fn plan_of_bytes(alloc: Global, bytes: &[u8]) -> Result<Plan, ReplayFault>
     ensures plan { IfOk result (λ p. plan_of bytes.now ≡ Ok (plan_seen p)) }

@@ -23,7 +23,7 @@ fn push_happened(out: &mut String, history: &[Event], turns: &[u64]) -> Result<(
     push_workers(out, history, turns)
 }
 
-/// Appends the lines that close a report: what came of it.
+/// Appends the lines that close a report: the results.
 #[tactic(auto, unfolding(crate::specs::Report::closing_lines))]
 fn push_closing(
     alloc: Global,

@@ -85,10 +85,11 @@ fn readable_jobs(
     known(rt, setting, last)
 }
 
-/// Returns what was given, or why not.
+/// Returns the value, or the reason without one.
 ///
 /// # Errors
-/// `Memory` if that was why.
+///
+/// `Memory` if that was the reason.
 fn parted<T: Drop>(given: Result<T, Fault>) -> Result<(Option<T>, Option<Fault>), Fault> {
     match given {
         Ok(value) => Ok((Some(value), None)),

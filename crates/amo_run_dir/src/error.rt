@@ -79,8 +79,8 @@ impl Later {
     }
 }
 
-/// Why a command ends before it has done what it was asked for. The message is a problem and a
-/// remedy. The program prints the path of [`Fault::item`] before it.
+/// The reason that a command ends before its work is done. The message is a problem and a remedy.
+/// The program prints the path of [`Fault::item`] before it.
 #[derive(Debug, Drop, Error)]
 pub enum Fault {
     /// There was no memory.
@@ -137,7 +137,7 @@ pub enum Fault {
     /// A file of the run has no byte, though it was made with one.
     #[error("this file is empty; put its bytes back, or give up this run (without them nobody knows which lines were performed)")]
     Empty(Item),
-    /// There is no folder, though a run was named.
+    /// The folder is missing, though a run was named.
     #[error("no folder is there; mount the file system that holds it, or name the path that it has now")]
     NoRun,
     /// The folder has no id.
@@ -170,7 +170,7 @@ pub enum Fault {
     /// The command may succeed later.
     #[error("{0}")]
     Later(Later),
-    /// The runner said this, which is no reply to what it was asked.
+    /// The runner sent this, which is not a reply to the question.
     #[error("runner: its reply `{0}` is invalid; docs/PROCESSES.md lists the replies")]
     NoAnswer(String),
     /// The folder is refused.
@@ -273,9 +273,10 @@ fn remedy_of(error: &io::Error) -> &'static str {
     }
 }
 
-/// Returns what a call that writes a file has given.
+/// Returns the result of a call that writes a file.
 ///
 /// # Errors
+///
 /// `Memory` if the system had none for the call, else `Write`.
 pub fn written<T>(item: Item, given: io::Result<T>) -> Result<T, Fault> {
     match given {
@@ -285,9 +286,10 @@ pub fn written<T>(item: Item, given: io::Result<T>) -> Result<T, Fault> {
     }
 }
 
-/// Returns what a call that reads a file has given.
+/// Returns the result of a call that reads a file.
 ///
 /// # Errors
+///
 /// `Memory` if the system had none for the call, else `Read`.
 pub fn had<T>(item: Item, given: io::Result<T>) -> Result<T, Fault> {
     match given {

@@ -148,7 +148,7 @@ pub enum Tried {
     Got(File),
     /// Another process has the lock.
     Held,
-    /// There is no such file.
+    /// The file is missing.
     Missing,
 }
 

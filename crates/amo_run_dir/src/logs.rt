@@ -225,7 +225,7 @@ pub(crate) fn checked_log(
     }
 }
 
-/// Returns why a journal with these checksums isn't read, if it doesn't keep what was counted.
+/// Returns the reason why a journal with these checksums isn't read, if it lacks a counted append.
 pub(crate) fn loss_in(
     first: Checksum,
     counted: Option<Count>,
@@ -242,7 +242,7 @@ pub(crate) fn loss_in(
     }
 }
 
-/// Returns what is wrong with a journal of so many appends that doesn't keep a count.
+/// Returns the loss of a journal of so many appends that doesn't keep a count.
 fn loss_of(count: &Count, appends: usize) -> Unread
     ensures fewer { appends < count.now.appends → result ≡ Fewer appends }
     ensures other { count.now.appends ≤ appends → result ≡ Other }

@@ -2,7 +2,7 @@
 use std::fmt;
 use std::fmt::{Display, Formatter};
 
-/// How a journal differs from what was on the disk when a round began.
+/// The difference between a journal and the part of it that was on the disk when a round began.
 #[derive(Clone, Copy, Debug)]
 pub enum Loss {
     /// It has `has` appends, and `counted` were on the disk, which are more.

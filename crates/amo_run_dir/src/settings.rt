@@ -2,7 +2,7 @@
 ghost use Rattle.std.specs.Prelude.{◌≤◌};
 ghost use Rattle.amo_givens.specs.declared.limits.TheConstants.{MAX_WORKERS, MAX_BETA};
 
-/// A run's folder, and what is required of it.
+/// A run's folder, and the conditions on it.
 #[derive(Clone, Copy)]
 pub struct Setting<'a> {
     /// The path of the folder.

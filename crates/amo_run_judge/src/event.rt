@@ -37,6 +37,6 @@ pub enum Event {
     /// The attempt at this place among those that are alive is over. The place counts from 0, and
     /// the attempt that was handed over last has place 0.
     Ends { place: u64 },
-    /// The worker or an operator says that this attempt was not begun or not done.
+    /// The worker or an operator reports that this attempt was not begun or not done.
     Opens(Attempt),
 }

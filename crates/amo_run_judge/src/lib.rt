@@ -1,6 +1,7 @@
-//! The judge of logs of runs: a text of events is a run by clearance, or here is the first event
-//! that may not follow, with the reason. Start with `run_judgement`. The theorems stand in the
-//! module `laws`.
+//! The judge of logs of runs: whether a text of events is a run by clearance.
+//!
+//! Start at [`run_judgement`]. If an event may not follow those before it, the verdict names the
+//! first such event and the reason. The theorems stand in the module [`laws`].
 #![tactic(auto)]
 
 mod event;

@@ -69,7 +69,7 @@ fn reason_text(alloc: Global, reason: Reason) -> Result<String, AllocError>
     }
 }
 
-/// Returns what is wrong with a line.
+/// Returns the fault of a line, in words.
 #[tactic(auto, unfolding(crate::specs::Telling::wrong_text))]
 fn wrong_text(alloc: Global, wrong: Wrong) -> Result<String, AllocError>
     ensures { IfOk result (λ text. string_bytes text ≡ wrong_text wrong) }

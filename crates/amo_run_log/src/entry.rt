@@ -17,7 +17,7 @@ pub enum Outcome {
     Doubt { time: u64 },
     /// It was not begun.
     Unbegun,
-    /// It ended at this time with this code, by which it says that it did nothing.
+    /// It ended at this time with this code, which means that it did nothing.
     Untouched { code: u8, time: u64 },
 }
 

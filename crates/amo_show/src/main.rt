@@ -1,8 +1,12 @@
-//! Shows what becomes of a plan, which is read from standard input: `amo_show trace` writes a line
-//! for each move of its run, `amo_show picture` a picture of it, `amo_show worst` the plan that
-//! leaves the fewest of its jobs performed, `amo_show all` what all orders of turns and stops lead
-//! to, `amo_show explain` what it asks for or what is wrong with it. `amo_show judge` reads a
-//! history and writes whether it is a run, and `amo_show judge --run` does so for a log of a run.
+//! The program `amo_show`: it reads a plan, a history or a log from standard input, and writes one
+//! text about it.
+//!
+//! - `amo_show trace`: a line for each move of the plan's run.
+//! - `amo_show picture`: a picture of the run.
+//! - `amo_show explain`: the plan's request, or its fault.
+//! - `amo_show worst`: the plan that leaves the fewest of its jobs performed.
+//! - `amo_show all`: the results of all orders of turns and stops.
+//! - `amo_show judge`: whether a history is a run; with `--run` whether a log of a run is one.
 #![tactic(auto)]
 
 use amo_cli::serve_words;

@@ -56,8 +56,7 @@ impl Model for Search {
 }
 
 impl Search {
-    /// Returns the opening world of these givens, and nothing known. The only error is out of
-    /// memory.
+    /// Returns the opening world of these givens, and nothing known. Fails if there was no memory.
     pub(crate) fn new(alloc: Global, givens: Givens) -> Result<Search, AllocError>
         ensures { IfOk result (λ s. s ≡ record { givens = givens; moves = [] }) }
     {

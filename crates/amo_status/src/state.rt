@@ -16,7 +16,7 @@ pub enum State {
     Failed,
     /// Nobody can know.
     Doubt,
-    /// Its command ended with a code by which it says that it did nothing.
+    /// Its command ended with a code which means that it did nothing.
     Untouched,
     /// It may still run, or is about to.
     Running,

@@ -190,7 +190,7 @@ fn push_unclaimed_text(
     out.push_str("</text>\n")
 }
 
-/// Appends at this height what came of the run.
+/// Appends the results of the run, at this height.
 #[tactic(auto, unfolding(crate::specs::Frame::foot))]
 pub(crate) fn push_foot(out: &mut String, scene: &Scene<'_>, y: u128) -> Result<(), AllocError>
     requires { y < 2 ^ 100 }

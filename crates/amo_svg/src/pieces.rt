@@ -20,9 +20,9 @@ pub(crate) enum Kind {
     Failures,
     /// A worker's claims, in its lane of the band.
     Shares,
-    /// A worker's claims, beside its lane.
+    /// A worker's claims, next to its lane.
     Ticks,
-    /// A worker's failed attempts, beside its lane.
+    /// A worker's failed attempts, next to its lane.
     Crosses,
 }
 

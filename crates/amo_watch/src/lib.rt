@@ -1,5 +1,7 @@
-//! The lines that `status --follow` prints: each attempt as its records say, and how many lines
-//! stand how. Start with `watch_line`.
+//! The lines that `status --follow` prints: the attempts by their records, and the counts of lines
+//! by status.
+//!
+//! Start at [`watch_line`].
 #![tactic(auto)]
 
 mod attempts;

@@ -65,7 +65,7 @@ pub(super) fn hire<P: Drop>(
     worker
 }
 
-/// One access of the worker, which files at once what it claims. Whether it goes on.
+/// Makes one access of the worker, and files at once what it claims. Returns true if it goes on.
 pub(super) fn access<P: Drop>(floor: &Floor<P>, worker: &mut Worker<P>) -> bool
     requires { worker.old.table_id ≡ floor.now.table_id }
     ensures { worker.new.table_id ≡ worker.old.table_id }

@@ -13,7 +13,7 @@ use amo_claims::Work;
 use amo_mailbox::Outlet;
 use amo_words::{Book, Floor};
 
-/// The values that are collected beside the registry.
+/// The values that are collected in addition to the registry.
 #[derive(Drop)]
 pub(crate) struct Collected<P, Out> {
     pub outlets: Vec<Outlet<Out>>,
