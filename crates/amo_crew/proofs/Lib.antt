@@ -1,3 +1,4 @@
+-- Lemmas of `amo_crew`, by subject. Folders have the proofs of functions, by module.
 pub mod Runs
 pub mod Collects
 pub mod Crews

@@ -1,3 +1,4 @@
+-- Lemmas of `amo_example_payments`, by subject. Folders have the proofs of functions, by module.
 pub mod Filters
 pub mod Sorts
 pub mod Stops

@@ -1,3 +1,4 @@
+-- Lemmas of `amo_journal`, by subject. Folders have the proofs of functions, by module.
 mod Blocks
 mod Chains
 mod Ending

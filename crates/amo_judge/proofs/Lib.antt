@@ -1,3 +1,4 @@
+-- Lemmas of `amo_judge`, by subject. Folders have the proofs of functions, by module.
 pub mod Begins
 pub mod Found
 pub mod NextLine

@@ -1,3 +1,4 @@
+-- Lemmas of `amo_operator`, by subject. Folders have the proofs of functions, by module.
 pub mod Knowledge
 pub mod Lines
 pub mod Placing

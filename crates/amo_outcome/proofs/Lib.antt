@@ -1,3 +1,4 @@
+-- Lemmas of `amo_outcome`, by subject. Folders have the proofs of functions, by module.
 pub mod Claims
 pub mod Noting
 pub mod DoneSets

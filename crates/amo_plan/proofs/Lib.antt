@@ -1,3 +1,4 @@
+-- Lemmas of `amo_plan`, by subject. Folders have the proofs of functions, by module.
 pub mod PassingLemmas
 pub mod DigitsLemmas
 pub mod TreeLemmas

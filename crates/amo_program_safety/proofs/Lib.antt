@@ -1,3 +1,4 @@
+-- Lemmas of `amo_program_safety`, by subject. Folders have the proofs of functions, by module.
 mod Texts
 mod Fresh
 mod Standing

@@ -1,3 +1,4 @@
+-- Lemmas of `amo_restart`, by subject. Folders have the proofs of functions, by module.
 pub mod Kept
 pub mod Tales
 pub mod Counts

@@ -1,1 +1,2 @@
+-- Lemmas of `amo_run_dir`, by subject. Folders have the proofs of functions, by module.
 mod Extents

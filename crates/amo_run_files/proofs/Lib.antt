@@ -1,3 +1,4 @@
+-- Lemmas of `amo_run_files`, by subject. Folders have the proofs of functions, by module.
 pub mod Again
 pub mod Counts
 pub mod Cuts

@@ -1,0 +1,1 @@
+-- Lemmas of `amo_run_host`, by subject. Folders have the proofs of functions, by module.

@@ -1,3 +1,4 @@
+-- Lemmas of `amo_run_judge`, by subject. Folders have the proofs of functions, by module.
 pub mod Found
 pub mod Logs
 pub mod Outcomes

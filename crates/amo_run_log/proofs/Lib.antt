@@ -1,3 +1,4 @@
+-- Lemmas of `amo_run_log`, by subject. Folders have the proofs of functions, by module.
 pub mod AppendTexts
 pub mod AttemptLemmas
 pub mod AttemptTexts

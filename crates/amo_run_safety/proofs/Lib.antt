@@ -1,3 +1,4 @@
+-- Lemmas of `amo_run_safety`, by subject. Folders have the proofs of functions, by module.
 mod Files
 mod Openings
 mod Entries

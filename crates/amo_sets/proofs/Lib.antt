@@ -1,3 +1,4 @@
+-- Lemmas of `amo_sets`, by subject. Folders have the proofs of functions, by module.
 pub mod Bytes
 pub mod Full
 pub mod Numbers

@@ -1,3 +1,4 @@
+-- Lemmas of `amo_status`, by subject. Folders have the proofs of functions, by module.
 pub mod ByIntent
 pub mod Closers
 pub mod JsonTexts

@@ -1,0 +1,1 @@
+-- Lemmas of `amo_worker`, by subject. Folders have the proofs of functions, by module.

@@ -1,0 +1,1 @@
+-- Lemmas of `amo_worker_app`, by subject. Folders have the proofs of functions, by module.
