@@ -17,7 +17,7 @@ UNBEGUN = Report(reports.UNBEGUN, 1, 1, text="why")
 
 
 class World(AnyWorld):
-    """What is outside of the rules, the rules' state, and what the monitor remembers."""
+    """The outside of the rules, the rules' state, and the notes of the monitor."""
 
     parts = "numbers"
 
@@ -66,12 +66,13 @@ class World(AnyWorld):
         return found
 
     def branches(self, event):
-        """Returns what a runner that ends may leave behind."""
+        """Returns the processes that a runner may leave running when it ends."""
         lefts = ["", "seen", "unseen"] if isinstance(event, RunnerEnded) else [""]
         return [dict(left=it) for it in lefts]
 
     def step(self, event, left=""):
-        """Has the rules take an event. `left` is what a runner that ends leaves behind."""
+        """Has the rules take an event. `left` are the processes that a runner leaves running when
+        it ends."""
         self.trace.append(event)
         try:
             self.before(event)

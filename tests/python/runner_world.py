@@ -22,7 +22,7 @@ KILLED = -9
 
 
 class World(AnyWorld):
-    """What is outside of the rules, the rules' state, and what the monitor remembers."""
+    """The outside of the rules, the rules' state, and the notes of the monitor."""
 
     parts = "attempts"
 
@@ -96,7 +96,7 @@ class World(AnyWorld):
         return found
 
     def branches(self, event):
-        """Returns what a command leaves behind, and whether one can be started."""
+        """Returns the processes that a command leaves running, and whether one can be started."""
         if isinstance(event, CommandEnded):
             rests = Rest if event.status in (0, None) else (Rest.NOTHING, Rest.UNSEEN)
             return [dict(rest=it) for it in rests]
@@ -106,8 +106,8 @@ class World(AnyWorld):
     # ---- a step
 
     def step(self, event, rest=Rest.NOTHING, starts=True):
-        """Has the rules take an event. `rest` is what a command that ends leaves behind; `starts`
-        is whether a command that is begun can be started."""
+        """Has the rules take an event. `rest` are the processes that a command leaves running when
+        it ends; `starts` is whether a command that is begun can be started."""
         self.replies = [rest, starts]
         self.trace.append(event)
         self.before(event)

@@ -261,7 +261,7 @@ class Spawned(Case):
 
 
 class NotBegun(Case):
-    """Each way in which a command isn't started leaves nothing behind."""
+    """Commands that aren't started: each way leaves nothing running."""
 
     def refused(self, commands):
         """Returns why a command isn't started. Nothing of it may be left."""
@@ -333,7 +333,7 @@ class Timed:
 
 
 class TimedCommand(Timed, Spawned):
-    """The same commands, with a timeout."""
+    """Commands with a timeout."""
 
     def test_the_kernel_ends_a_command_whose_runner_does_not(self):
         commands = self.commands("sh", "-c", SLEEPS, grace=0.0)
@@ -342,7 +342,7 @@ class TimedCommand(Timed, Spawned):
 
 
 class TimedNotBegun(Timed, NotBegun):
-    """The same failures, with a timeout."""
+    """Commands with a timeout that aren't started."""
 
 
 if __name__ == "__main__":

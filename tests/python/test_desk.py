@@ -119,7 +119,7 @@ class Own(unittest.TestCase):
 
 
 class WordsOfRunners(unittest.TestCase):
-    """What a runner knows of its crew."""
+    """The knowledge of a runner about its crew."""
 
     def test_a_runner_has_the_settings_of_its_crew(self):
         options = ["--timeout", "2.5", "--grace", "0.1", "--linger", "0", "--untouched", "75,76",

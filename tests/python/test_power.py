@@ -44,7 +44,7 @@ def after(*lines: str) -> bank.Bank:
 
 class Rules(unittest.TestCase):
     def shows(self, kind: str, *lines: str) -> None:
-        """These lines break the rule of this kind, and no other."""
+        """Checks that these lines break the rule of this kind, and no other."""
         self.assertEqual(list(bank.kinds(after(*lines).wrongs)), [kind])
 
     def test_a_healthy_run_is_not_wrong(self) -> None:

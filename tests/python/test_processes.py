@@ -221,7 +221,7 @@ class Processes(unittest.TestCase):
 
 
 class Words(unittest.TestCase):
-    """How a process is named for the operator."""
+    """The name of a process for the operator."""
 
     def test_described(self):
         self.assertEqual(described([Process(0, 0)]), "process 0 (no words)")

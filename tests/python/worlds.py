@@ -17,9 +17,9 @@ def want(is_so, rule):
 
 
 class World:
-    """What is outside of some rules, their `state`, what a monitor remembers, and a `trace` for
-    messages alone. A world has `events`, which can come next, and a method `on_ACTION` for each
-    action of the rules."""
+    """The outside of some rules, their `state`, the notes of a monitor, and a `trace` for messages
+    alone. A world has `events`, which can come next, and a method `on_ACTION` for each action of
+    the rules."""
 
     parts = ""  # the name of the dictionary of the state whose values change
 
