@@ -1,7 +1,7 @@
 #!/bin/sh
-# act.sh ROOM MACHINE TEXT: the command of the tests. It appends to ROOM/effects, a line each: `begun MACHINE TEXT`
-# and `did MACHINE TEXT`. It fails if ROOM/fails exists, and waits between the two while ROOM/waits
-# exists.
+# act.sh ROOM MACHINE TEXT: the command of the tests. It appends to ROOM/effects, a line each:
+# `begun MACHINE TEXT` and `did MACHINE TEXT`. It fails if ROOM/fails exists, and waits between the
+# two while ROOM/waits exists.
 machine=${2##*/}
 echo "begun $machine $3" >> "$1/effects"
 [ -e "$1/fails" ] && exit 3

@@ -71,7 +71,8 @@ judge_runs() {
   expect 'amo_show explain of a byte more' 1 /dev/null "$(line 'fault 11 TooLong')" "$show" explain <"$room/longest"
 }
 
-# asked_for PLAN: what is explained of a plan that is taken, by the numbers that `amo check` writes of it.
+# asked_for PLAN: what is explained of a plan that is taken, by the numbers that `amo check` writes
+# of it.
 asked_for() {
   "$program" check <"$1" | awk '
     function some(count, one) { return count " " one (count == 1 ? "" : "s") }
@@ -119,10 +120,12 @@ explain_runs() {
 # jobs_of COUNT: so many jobs.
 jobs_of() { [ "$1" -eq 0 ] || printf '[[job]]\nname = "job-%d"\nsay = ""\n' $(seq "$1"); }
 
-# ended_with COUNT: whether the report in this function's standard input has so many jobs performed and no worker that goes on.
+# ended_with COUNT: whether the report in this function's standard input has so many jobs performed
+# and no worker that goes on.
 ended_with() { awk -v count="$1" '/^worker .* running / { running++ } /^performed / { done = $2 } END { exit running || done != count }'; }
 
-# expect_worst JOBS WORKERS BETA COUNT: the worst plan of these is one, and its replay performs just so many jobs.
+# expect_worst JOBS WORKERS BETA COUNT: the worst plan of these is one, and its replay performs just
+# so many jobs.
 expect_worst() {
   local name="amo_show worst of $1 jobs, $2 workers and threshold $3"
   { printf 'version = 1\nworkers = %d\nbeta = %d\n' "$2" "$3"; jobs_of "$1"; } >"$room/given.toml"

@@ -26,10 +26,12 @@ make_small() {
     }'
 }
 
-# is_taken PROGRAM WORDS..: whether the command writes something of small.toml and nothing else. It is left in out.
+# is_taken PROGRAM WORDS..: whether the command writes something of small.toml and nothing else. It
+# is left in out.
 is_taken() { "$@" <"$room/small.toml" >"$room/out" 2>"$room/err" && [ -s "$room/out" ] && [ ! -s "$room/err" ]; }
 
-# is_small_taken SIZE: whether each command takes small.toml, the check is its line, and its report is judged to be a run.
+# is_small_taken SIZE: whether each command takes small.toml, the check is its line, and its report
+# is judged to be a run.
 is_small_taken() {
   local words
   is_taken "$program" check && cmp -s "$room/small.check" "$room/out" && is_taken "$program" replay && counted "$room/out" >"$room/counted" &&
