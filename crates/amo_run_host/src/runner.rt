@@ -63,6 +63,10 @@ impl Runner {
 }
 
 /// Returns a line as a text to print.
+///
+/// # Errors
+///
+/// `AllocError` if there was no memory.
 pub fn shown(rt: HostRuntime, said: &[u8]) -> Result<String, AllocError> {
     match std::str::from_utf8(said) {
         Ok(text) => String::from_str(rt.alloc(), text),

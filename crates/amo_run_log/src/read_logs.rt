@@ -81,7 +81,11 @@ impl ReadLogs {
         Ok(true)
     }
 
-    /// Has the run know so many lines, if it knew fewer.
+    /// Makes the run know so many lines, if it knew fewer.
+    ///
+    /// # Errors
+    ///
+    /// `AllocError` if there was no memory.
     pub fn grow(&mut self, alloc: Global, count: u64) -> Result<(), AllocError>
         ensures lines { OnOk result (length self.new.attempts.lines.items ≡ max (length self.old.attempts.lines.items) count) }
         ensures journals { self.new.attempts.journals ≡ self.old.attempts.journals }
