@@ -213,7 +213,8 @@ def given(facts: Dict[str, Any]) -> Iterator[str]:
               ("Options", shlex.join(options) if options else None),
               ("Results", facts["results"]), ("Workers", facts["workers"]),
               ("Round", facts["round"]), ("Attempts", facts["attempts"]),
-              ("Version of the crew", facts["version"]), ("Version of this report", facts["program"])]
+              ("Version of the crew", facts["version"]),
+              ("Version of this report", facts["program"])]
     for name, value in values:
         text = "not known" if value is None else value
         yield f"<tr>{cell('What', None, name)}{cell('Value', None, folded(str(text)))}</tr>"
