@@ -12,8 +12,8 @@ LAST, MOST = 5, 1000  # of an output: so many lines at its end, of so many bytes
 
 
 class Lines:
-    """The lines of a run's list, by the list's copy in the run's folder. That file only grows, so a
-    line that an attempt names is there. Each line is looked for once."""
+    """The lines of a run's list, by the copy of the list in the run's folder. That file only grows,
+    so a line that an attempt names is there. Each line is looked for once."""
 
     def __init__(self, run: str):
         self.path, self.begins = f"{run}/jobs", array("Q", [0])  # where each line begins

@@ -129,7 +129,8 @@ class Numbers(unittest.TestCase):
         return found
 
     def test_numbers_are_those_of_the_run(self):
-        text = metrics.text_of(figures.figures_of(found_of(ROWS, 9)), metrics.Crew(3, True, None), '/a "b"\\\n')
+        text = metrics.text_of(figures.figures_of(found_of(ROWS, 9)), metrics.Crew(3, True, None),
+                               '/a "b"\\\n')
         self.assertIn('run="/a \\"b\\"\\\\\\n"', text)
         found = self.samples(text)
         for state, count in {"done": 1, "failed": 1, "doubt": 1, "pending": 1, "untouched": 0,
@@ -178,7 +179,8 @@ class Numbers(unittest.TestCase):
 
     @unittest.skipUnless(shutil.which("promtool"), "promtool isn't installed: prometheus has it")
     def test_promtool_accepts_numbers_and_rules(self):
-        text = metrics.text_of(figures.figures_of(found_of(ROWS, 9)), metrics.Crew(3, True, 5.5), "/a")
+        text = metrics.text_of(figures.figures_of(found_of(ROWS, 9)), metrics.Crew(3, True, 5.5),
+                               "/a")
         subprocess.run(["promtool", "check", "metrics"], input=text.encode(), check=True,
                        capture_output=True)
         subprocess.run(["promtool", "check", "rules",
