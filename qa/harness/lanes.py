@@ -12,6 +12,7 @@ import signal
 import sys
 import time
 import traceback
+from contextlib import suppress
 from typing import Any, Callable, Iterable, NamedTuple, NoReturn, Optional, Sequence
 
 from harness.bench import Skipped, Wrong
@@ -126,6 +127,13 @@ class Lanes:
                 json.dump({**told, "seconds": time.monotonic() - begun}, file)
         finally:
             os._exit(0)
+
+    def stop(self) -> None:
+        """Ends the tests that still run, and waits until their processes are gone."""
+        for process in self.running:
+            with suppress(ProcessLookupError, ChildProcessError):
+                os.kill(process, signal.SIGTERM)
+                os.waitpid(process, 0)
 
     def take(self, it: Test, room: str) -> None:
         """Takes what came of a test whose process has ended, and prints its line."""
