@@ -67,7 +67,7 @@ pub fn sync_folder<R: Files<File = File>>(rt: &R, path: &str) -> io::Result<()> 
 ///
 /// # Errors
 ///
-/// The system's error. The name `beside` may then be left.
+/// The system's error. The name `beside` may then be left, or the file replaced and not synced.
 pub fn replace_file<R: Files<File = File>>(
     rt: &R,
     folder: &str,
