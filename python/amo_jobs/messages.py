@@ -69,6 +69,8 @@ class Screen:
 
 def visible(text: str) -> str:
     """Returns a text as it may be written to a terminal."""
+    if text.isprintable():
+        return text
     return "".join(it if it.isprintable() else it.encode("unicode_escape", "replace").decode()
                    for it in text)
 

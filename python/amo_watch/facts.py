@@ -92,14 +92,15 @@ def facts_of(settings: Settings, program: Program, version: str) -> Dict[str, An
     budget = Budget()
     lists = {name: found.of(state) for name, state in LISTS.items()}
     shown = {name: rows[:MOST_ROWS] for name, rows in lists.items()}
-    timed = [(it.seconds or 0, it) for it in found.attempts.values() if it.seconds is not None]
+    spans = [(it.seconds, it) for it in found.attempts.values()]
+    timed = [(span, it) for span, it in spans if span is not None]
     slow = [it for _, it in heapq.nsmallest(MOST_SLOW, timed, lambda row: (-row[0], row[1].line))]
     texts = Lines(settings.run).texts({it.line for rows in [*shown.values(), slow] for it in rows})
     facts = {**head_of(run, found), "rates": rates_of(found),
              **{name: [row_of(run, found.time, it, texts, budget) for it in rows]
                 for name, rows in shown.items()},
              "slowest": [row_of(run, found.time, it, texts, budget, False) for it in slow],
-             "again": run.command("again"), "histogram": histogram_of([it for it, _ in timed]),
+             "again": run.command("again"), "histogram": histogram_of([span for span, _ in timed]),
              "timeline": timeline_of(found, settings.run)}
     facts["left_out"] = left_out(facts, lists, budget, run)
     return facts

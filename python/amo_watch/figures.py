@@ -32,8 +32,7 @@ class Figures(NamedTuple):
 def figures_of(found: Snapshot) -> Figures:
     """Returns the figures of a run."""
     ends = {it: found.ends[it] for it in range(found.time - MINUTE + 1, found.time + 1)}
-    return Figures(found.time, found.counts,
-                   collections.Counter(it.outcome for it in found.attempts.values()), found.begun,
+    return Figures(found.time, found.counts, collections.Counter(found.outcomes), found.begun,
                    collections.Counter(ends), first([it.begun for it in found.of("pending")]),
                    first([it.ended for it in found.of("doubt")]))
 

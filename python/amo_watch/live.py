@@ -13,7 +13,7 @@ import signal
 import sys
 import time
 from contextlib import suppress
-from typing import Any, Dict, List, Optional
+from typing import Any, Dict, List
 
 from amo_jobs import calls
 from amo_jobs.files import content
@@ -151,16 +151,25 @@ def on_screen(live: Live, screen: Any) -> None:
     with suppress(curses.error):  # a terminal may have no invisible cursor
         curses.curs_set(0)
     screen.nodelay(True)
+    draw(screen, live)
     while live.view.answer is not Answer.QUIT:
-        live.read(WAIT, sys.stdin)
-        key: Optional[int] = screen.getch()
-        while key is not None and key != -1:
-            if key != curses.KEY_RESIZE:  # which nobody has pressed
-                live.view.take(chr(key) if 0 < key < 128 else "")
-            key = screen.getch()
+        is_new = live.read(WAIT, sys.stdin)
+        is_pressed = take_keys(screen, live.view)
         if live.view.answer is Answer.STOP:
             live.view.answer, live.view.note = Answer.NONE, live.stop()
-        draw(screen, live)
+        if is_new or is_pressed:
+            draw(screen, live)
+
+
+def take_keys(screen: Any, view: View) -> bool:
+    """Has the view take the keys that were pressed, and returns true if there are any. A new size
+    of the terminal comes as a key, which nobody has pressed."""
+    keys: List[int] = []
+    while (key := screen.getch()) != -1:
+        keys.append(key)
+        if key != curses.KEY_RESIZE:
+            view.take(chr(key) if 0 < key < 128 else "")
+    return bool(keys)
 
 
 def draw(screen: Any, live: Live) -> None:

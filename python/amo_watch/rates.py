@@ -13,8 +13,7 @@ def rates_of(found: Snapshot) -> Dict[str, Any]:
     """Returns when the run began, when an attempt ended last, how many ended in a second, over all
     and in the last minute, and when all lines will be closed. That time is None if no attempt
     ended in the last minute: then nobody may be at work."""
-    begun, ended = found.begun, max(found.ends, default=None)
-    count = sum(found.ends.values())
+    begun, ended, count = found.begun, found.ended, found.count
     span = max(ended - begun, 1) if begun is not None and ended is not None else 0
     minute = minute_of(found.ends, begun, found.time)
     left = found.counts["open"] + found.counts["pending"]

@@ -2,6 +2,7 @@
 
 from __future__ import annotations
 
+import gc
 import json
 import sys
 
@@ -22,6 +23,7 @@ def version() -> str:
 def report(settings: Settings, program: Program) -> int:
     """Prints the report of a run, and returns the exit status."""
     name_run(settings, program)
+    gc.disable()  # all that is made here is needed until the end, and 100,000 attempts are much
     facts = facts_of(settings, program, version())
     if settings.json:
         print(json.dumps(facts))

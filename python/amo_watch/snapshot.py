@@ -42,7 +42,7 @@ class Attempt(NamedTuple):
         """How long it took; None if that isn't known."""
         if self.begun is None or self.ended is None:
             return None
-        return max(self.ended - self.begun, 0)
+        return self.ended - self.begun if self.ended > self.begun else 0
 
 
 class Snapshot:
@@ -57,7 +57,10 @@ class Snapshot:
         self.counts: Dict[str, int] = dict.fromkeys(COUNTS, 0)
         self.attempts: Dict[Tuple[int, int], Attempt] = {}
         self.states: Dict[str, Set[Tuple[int, int]]] = {it: set() for it in COUNTS}
+        self.outcomes: Counter[str] = Counter()  # how many attempts have which outcome
         self.ends: Counter[int] = Counter()  # how many attempts have ended in each second
+        self.ended: Optional[int] = None  # when the last one has ended, and how many have
+        self.count = 0
         self.begun: Optional[int] = None  # when the first one was begun
 
     def take(self, said: Dict[str, Any]) -> List[Attempt]:
@@ -66,22 +69,33 @@ class Snapshot:
         self.round, self.workers, self.lines = said["round"], said["workers"], said["lines"]
         self.counts = {it: said[it] for it in COUNTS}
         fresh = [Attempt._make(row) for row in said["attempts"]]
-        for it in fresh:
-            self.put(it)
+        self.put({(it.worker, it.serial): it for it in fresh})
         return fresh
 
-    def put(self, it: Attempt) -> None:
-        """Puts an attempt at its place."""
-        key = (it.worker, it.serial)
-        old = self.attempts.get(key)
-        if old:
-            self.states[old.state].discard(key)
-        if it.ended is not None and (old is None or old.ended is None):
-            self.ends[it.ended] += 1
-        if it.begun is not None:
-            self.begun = it.begun if self.begun is None else min(self.begun, it.begun)
-        self.attempts[key] = it
-        self.states[it.state].add(key)
+    def put(self, fresh: Dict[Tuple[int, int], Attempt]) -> None:
+        """Puts attempts at their places. (A first line may have 100,000 of them.)"""
+        for key in [it for it in fresh if it in self.attempts]:
+            self.forget(key, self.attempts[key])
+        self.attempts.update(fresh)
+        for key, it in fresh.items():
+            self.states[it.state].add(key)
+        ended = [it.ended for it in fresh.values() if it.ended is not None]
+        begun = [it.begun for it in fresh.values() if it.begun is not None]
+        self.outcomes.update(it.outcome for it in fresh.values())
+        self.ends.update(ended)
+        self.count += len(ended)
+        if ended:
+            self.ended = max(ended) if self.ended is None else max(*ended, self.ended)
+        if begun:
+            self.begun = min(begun) if self.begun is None else min(*begun, self.begun)
+
+    def forget(self, key: Tuple[int, int], it: Attempt) -> None:
+        """Doesn't count an attempt any more that has changed."""
+        self.states[it.state].discard(key)
+        self.outcomes[it.outcome] -= 1
+        if it.ended is not None:
+            self.ends[it.ended] -= 1
+            self.count -= 1
 
     def of(self, state: str) -> List[Attempt]:
         """Returns the attempts that stand so, by line."""

@@ -13,8 +13,8 @@ MOST_BARS, PARTS = 5000, 120  # attempts that have a bar each; else so many bars
 def timeline_of(found: Snapshot, run: str) -> Dict[str, Any]:
     """Returns the lanes of the workers and the marks, between two times."""
     begun = [it for it in found.attempts.values() if it.begun is not None]
-    first = min((it.begun or 0 for it in begun), default=found.time)
-    last = max((ends_at(it, found.time) + 1 for it in begun), default=found.time + 1)
+    first = found.time if found.begun is None else found.begun
+    last = max((ends_at(it, found.time) for it in begun), default=found.time) + 1
     lanes: Dict[int, List[Attempt]] = {}
     for it in begun:
         lanes.setdefault(it.worker, []).append(it)
@@ -30,7 +30,8 @@ def timeline_of(found: Snapshot, run: str) -> Dict[str, Any]:
 def ends_at(it: Attempt, now: int) -> int:
     """Returns where a bar ends. One that is pending may run until now."""
     begun = it.begun or 0
-    return max(begun, now if it.outcome == "pending" else it.ended or begun)
+    end = now if it.outcome == "pending" else it.ended or begun
+    return end if end > begun else begun
 
 
 def bars_of(rows: List[Attempt], first: int, last: int, now: int) -> List[Dict[str, Any]]:

@@ -222,6 +222,9 @@ class Snapshots(unittest.TestCase):
         self.assertEqual([it.state for it in found.attempts.values()], ["done", "pending"])
         self.assertEqual([it.seconds for it in found.attempts.values()], [4, None])
         self.assertEqual([it.line for it in found.of("pending")], [1])
+        self.assertEqual((found.begun, found.ended, found.count), (5, 9, 1))
+        self.assertEqual({**found.outcomes}, {"pending": 1, "done": 1})
+        self.assertEqual([it.line for it in found.of("done")], [2])
 
     def test_a_line_of_another_version_is_refused(self):
         for line in (b"", b"{}", b"[]", b"lines 3 done 0", b'{"format": 2}'):

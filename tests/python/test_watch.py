@@ -65,8 +65,8 @@ class Views(unittest.TestCase):
         self.assertEqual(view.beside("a" * 30, "b" * 30, 20), "a" * 10 + " | " + "b" * 30)
 
     def test_each_size_has_both_paces_and_the_end(self):
-        found = found_of(ROWS, 9)
-        found.ends.update({NOW - 3: 12})  # 15 ends in the last minute, and in 87 s over all
+        more = [[3, k, 9 + k, NOW - 9, "done", 0, NOW - 3, "done"] for k in range(1, 13)]
+        found = found_of(ROWS + more, 21)  # 15 ends in the last minute, and in 87 s over all
         texts = {size: [it for it, _ in view.picture(view.Facts(found, {}, {}, []), view.View(),
                                                      *size)] for size in ((39, 10), (79, 24))}
         self.assertRegex(texts[39, 10][3], r"^0\.25/s, all 0\.172/s, over \d\d:\d\d:\d\d$")
