@@ -396,7 +396,7 @@ def try_refusals(bench):
     process.stdout.close()
     want(process.wait(240) == WRITE, f"{process.poll()}: {process.stderr.read()}")
     process.stderr.close()
-    path = f"{scene.run}/journal.1"
+    path = max((f"{scene.run}/journal.{worker}" for worker in (1, 2)), key=os.path.getsize)
     data = bytearray(folder.read(path))
     data[3] ^= 1
     with open(path, "wb") as file:
