@@ -1,0 +1,87 @@
+"""Makes roots: folders with a small Debian, in which a release is tried. Runs scripts in them.
+
+A root has the packages of its list in packaging/roots, and what Debian needs. It has no toolchain
+and no repository. Roots stay in the folder KEPT, each beside the list that it was made by.
+"""
+
+from __future__ import annotations
+
+import os
+import shlex
+import shutil
+import subprocess
+from typing import List
+
+HERE = os.path.dirname(os.path.realpath(__file__))
+LISTS = f"{os.path.dirname(os.path.dirname(HERE))}/packaging/roots"
+KEPT = os.environ.get("AMO_ROOTS", "/var/cache/amo-roots.kept")
+SUITE, MIRROR = "bookworm", os.environ.get("AMO_MIRROR", "http://deb.debian.org/debian")
+LONGEST = 1200  # seconds that a script or the making of a root may take
+ENVIRONMENT = ["PATH=/usr/local/sbin:/usr/local/bin:/usr/sbin:/usr/bin:/sbin:/bin", "HOME=/root",
+               "LC_ALL=C.UTF-8", "DEBIAN_FRONTEND=noninteractive"]
+
+
+def names() -> List[str]:
+    """Returns the names of all roots."""
+    return sorted(os.listdir(LISTS))
+
+
+def packages_of(name: str) -> List[str]:
+    """Returns the packages of a root, beside those that Debian needs."""
+    with open(f"{LISTS}/{name}", encoding="utf-8") as file:
+        return file.read().split()
+
+
+def is_kept(name: str) -> bool:
+    """Returns whether the root is there, made by the list that stands in the repository."""
+    try:
+        with open(f"{KEPT}/{name}.list", encoding="utf-8") as file:
+            return file.read().split() == packages_of(name) and os.path.isdir(f"{KEPT}/{name}")
+    except FileNotFoundError:
+        return False
+
+
+def make(name: str) -> None:
+    """Makes a root by mmdebstrap, or by debootstrap. Its list is written last.
+
+    Raises FileNotFoundError if neither is installed, and SubprocessError if the call fails.
+    """
+    packages, place = ",".join(packages_of(name)), f"{KEPT}/{name}"
+    shutil.rmtree(place, ignore_errors=True)
+    os.makedirs(KEPT, exist_ok=True)
+    if shutil.which("mmdebstrap"):
+        words = ["mmdebstrap", "--mode=root", "--variant=minbase"]
+    else:
+        words = ["debootstrap", "--variant=minbase"]
+    subprocess.run([*words, f"--include={packages}", SUITE, place, MIRROR], timeout=LONGEST,
+                   stdin=subprocess.DEVNULL, check=True)
+    with open(f"{KEPT}/{name}.list", "w", encoding="utf-8") as file:
+        file.write("".join(f"{it}\n" for it in packages_of(name)))
+
+
+def can_enter() -> bool:
+    """Returns whether this process may enter a root: that takes the rights of root."""
+    words = ["unshare", "--mount", "--pid", "--net", "--fork", "mount", "-t", "tmpfs", "none",
+             "/mnt"]
+    return os.geteuid() == 0 and subprocess.run(words, stderr=subprocess.DEVNULL).returncode == 0
+
+
+def run(name: str, room: str, words: List[str]) -> "subprocess.CompletedProcess[str]":
+    """Runs a command in a root, without network, and returns it with what it printed.
+
+    The root stays as it is: changes go to a layer in `room`. The folder `room`/srv is /srv there.
+    Raises TimeoutExpired if it takes too long.
+    """
+    for folder in ("srv", "upper", "work", "root"):
+        os.makedirs(f"{room}/{folder}", exist_ok=True)
+    root = shlex.quote(f"{room}/root")
+    layers = shlex.quote(f"lowerdir={KEPT}/{name},upperdir={room}/upper,workdir={room}/work")
+    steps = [f"mount -t overlay overlay -o {layers} {root}",
+             f"mount --bind {shlex.quote(room)}/srv {root}/srv",
+             f"mount -t proc proc {root}/proc",
+             f"mount -t devpts devpts {root}/dev/pts",
+             f"exec chroot {root} env -i {shlex.join([*ENVIRONMENT, *words])}"]
+    return subprocess.run(["unshare", "--mount", "--pid", "--net", "--ipc", "--uts", "--fork",
+                           "--kill-child", "sh", "-euc", "\n".join(steps)],
+                          stdin=subprocess.DEVNULL, stdout=subprocess.PIPE,
+                          stderr=subprocess.STDOUT, text=True, errors="replace", timeout=LONGEST)
