@@ -16,7 +16,7 @@ HOME = "usr/lib/amo"  # the release as a package has it: the programs find the r
 LIBRARIES = "usr/lib/x86_64-linux-gnu"
 DOCS = "usr/share/doc"
 PYTHON = "#!/usr/bin/env python3"  # a package names Debian's own Python instead
-# What a package has elsewhere than in HOME: a folder of a release, and its place.
+# A folder of a release, and its place in a package, if that isn't HOME.
 PLACES = [
     ("man", "usr/share/man"),
     ("examples", f"{DOCS}/amo/examples"),

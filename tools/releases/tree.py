@@ -13,8 +13,8 @@ from typing import Iterator, List, Tuple
 PLAN_PROGRAMS = ("amo", "amo_show", "amo_worker")  # these are built; the others are in Python
 PROGRAMS = (*PLAN_PROGRAMS, "amo_jobs", "amo_share")
 SUMS = "SHA256SUMS"
-# What is copied: a pattern in the repository, and the folder that gets it. A pattern of OPTIONAL
-# may match nothing.
+# The files that are copied: a pattern in the repository, and the folder that gets it. A pattern of
+# OPTIONAL may match nothing.
 COPIED = [
     *((it, "") for it in (*PROGRAMS, "VERSION", "CHANGELOG.md", "CITATION.cff",
                           "tools/releases/README")),

@@ -97,7 +97,7 @@ def prepare(tree: str, forms: str, srv: str, epoch: int) -> None:
         copy(f"{HERE}/{name}", srv)
     copy(f"{ROOT}/VERSION", f"{srv}/here")
     shutil.copytree(f"{ROOT}/examples/plans", f"{srv}/here/examples/plans")
-    shutil.copytree(f"{ROOT}/tests/past", f"{srv}/here/tests/past")
+    shutil.copytree(f"{ROOT}/tools/releases/past", f"{srv}/here/tools/releases/past")
     for path in glob.glob(f"{forms}/*.deb"):
         copy(path, f"{srv}/forms")
     newer = f"{tree}.packages/newer"
