@@ -21,11 +21,6 @@ ENVIRONMENT = ["PATH=/usr/local/sbin:/usr/local/bin:/usr/sbin:/usr/bin:/sbin:/bi
                "LC_ALL=C.UTF-8", "DEBIAN_FRONTEND=noninteractive"]
 
 
-def names() -> List[str]:
-    """Returns the names of all roots."""
-    return sorted(os.listdir(LISTS))
-
-
 def packages_of(name: str) -> List[str]:
     """Returns the packages of a root, beside those that Debian needs."""
     with open(f"{LISTS}/{name}", encoding="utf-8") as file:

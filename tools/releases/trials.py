@@ -21,10 +21,17 @@ NEWER = "99.0.0"  # the version of the package that apt upgrades to
 COUNTS = re.compile(r"(\d+) passed, (\d+) failed")
 # The cases of each root, in this order.
 CASES = {
-    "apt": ["nothing_else_is_there", "apt_installs_it", "versions", "plans", "the_pages_first_steps",
+    "apt": ["no_compiler", "apt_installs_it", "versions", "plans", "the_pages_first_steps",
             "a_crew_that_is_killed", "a_list_that_is_shared", "past_versions",
             "its_units_are_valid", "an_upgrade_leaves_a_crew_alone", "removal_leaves_nothing"],
-    "c": ["nothing_else_is_there", "a_program_in_c_is_built"],
+    "c": ["no_rust", "a_program_in_c_is_built"],
+    "python": ["no_compiler", "the_wheel_is_installed"],
+    "rust": ["the_crates_are_built"],
+}
+# The tools that try the other forms, with what they need, if the repository has them.
+OTHERS = {
+    "python": ["tools/try_wheel", "tools/wheels/*", "tools/c/crews.py", "examples/python/*"],
+    "rust": ["tools/try_rust", "tools/c/crews.py"],
 }
 
 
@@ -91,6 +98,11 @@ SPOILED = [
 
 # ---- the trials
 
+def is_for(name: str) -> bool:
+    """Returns whether the repository has what is tried in this root."""
+    return all(os.path.exists(f"{ROOT}/{it}") for it in OTHERS.get(name, [])[:1])
+
+
 def prepare(tree: str, forms: str, srv: str, epoch: int) -> None:
     """Puts into the folder /srv of a root what the cases need."""
     for name in ("in_root", "cases", "follow.py"):
@@ -98,8 +110,11 @@ def prepare(tree: str, forms: str, srv: str, epoch: int) -> None:
     copy(f"{ROOT}/VERSION", f"{srv}/here")
     shutil.copytree(f"{ROOT}/examples/plans", f"{srv}/here/examples/plans")
     shutil.copytree(f"{ROOT}/tools/releases/past", f"{srv}/here/tools/releases/past")
-    for path in glob.glob(f"{forms}/*.deb"):
+    for path in glob.glob(f"{forms}/amo*") + glob.glob(f"{forms}/libamo*"):
         copy(path, f"{srv}/forms")
+    for pattern in {it for every in OTHERS.values() for it in every}:
+        for path in filter(os.path.isfile, glob.glob(f"{ROOT}/{pattern}")):
+            copy(path, f"{srv}/here/{os.path.dirname(pattern)}")
     newer = f"{tree}.packages/newer"
     if not os.path.isdir(newer):
         make_newer(f"{tree}.packages/amo", newer, version_of(tree))
