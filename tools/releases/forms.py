@@ -144,8 +144,7 @@ def lay_library(root: str, tree: str, folder: str) -> None:
     """Lays out the files of the package libamo-dev."""
     copy(f"{tree}/c/amo.h", f"{folder}/usr/include")
     copy(f"{tree}/c/libamo.a", f"{folder}/{LIBRARIES}")
-    for name in ("crew.c", "words.c"):
-        copy(f"{tree}/c/{name}", f"{folder}/{DOCS}/libamo-dev/examples")
+    copy(f"{tree}/c/crew.c", f"{folder}/{DOCS}/libamo-dev/examples")
     fill(f"{root}/packaging/amo.pc.in", f"{folder}/{LIBRARIES}/pkgconfig/amo.pc", PREFIX="/usr",
          INCLUDE="${prefix}/include", LIB="${prefix}/lib/x86_64-linux-gnu",
          VERSION=version_of(tree))

@@ -29,7 +29,7 @@ COPIED = [
     ("docs/help/*.txt", "docs/help"),
     ("examples/systemd/*", "examples/systemd"),
     ("examples/lines/*", "examples/lines"),
-    *((f"examples/c/{it}", "c") for it in ("amo.h", "crew.c", "words.c")),
+    *((f"examples/c/{it}", "c") for it in ("amo.h", "crew.c")),
 ]
 OPTIONAL = [
     ("man/*.1", "man/man1"),
