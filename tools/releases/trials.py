@@ -23,7 +23,7 @@ COUNTS = re.compile(r"(\d+) passed, (\d+) failed")
 CASES = {
     "apt": ["no_compiler", "apt_installs_it", "versions", "plans", "the_pages_first_steps",
             "a_crew_that_is_killed", "a_list_that_is_shared", "past_versions",
-            "its_units_are_valid", "an_upgrade_leaves_a_crew_alone", "removal_leaves_nothing"],
+            "its_units_are_valid", "an_upgrade_leaves_a_unit_alone", "removal_leaves_nothing"],
     "c": ["no_rust", "a_program_in_c_is_built"],
     "python": ["no_compiler", "the_wheel_is_installed"],
     "rust": ["the_crates_are_built"],
@@ -89,7 +89,7 @@ SPOILED = [
     Spoiled("a unit without its program", "amo", change(UNIT, "/usr/bin/", "/opt/amo/"), "apt",
             ["apt_installs_it", "its_units_are_valid"]),
     Spoiled("an upgrade that kills the crew", "newer", add("DEBIAN/postinst", KILL), "apt",
-            ["apt_installs_it", "an_upgrade_leaves_a_crew_alone"]),
+            ["apt_installs_it", "an_upgrade_leaves_a_unit_alone"]),
     Spoiled("an amo.pc without the library", "libamo-dev",
             change(f"{LIBRARIES}/pkgconfig/amo.pc", " -lamo", ""), "c",
             ["a_program_in_c_is_built"]),
@@ -141,7 +141,7 @@ def pack_into(folder: str, path: str, epoch: int) -> None:
 def call(name: str, room: str, cases: List[str]) -> Tuple[int, int, str]:
     """Returns how many cases passed and failed in a root, and what was printed."""
     try:
-        said = roots.run(name, room, ["bash", "/srv/in_root", *cases]).stdout
+        said = roots.run(name, room, ["bash", "/srv/in_root", *cases])
     except subprocess.TimeoutExpired:
         return 0, 1, f"release: root {name}: FAILED: it took more than {roots.LONGEST} seconds\n"
     text, _, last = said.rstrip("\n").rpartition("\n")
