@@ -50,7 +50,7 @@ def gather(root: str, kit: str, into: str) -> None:
     Raises FileNotFoundError if a file is missing, and CalledProcessError if a call fails.
     """
     for pattern, folder in [*COPIED, *OPTIONAL]:
-        found = sorted(glob.glob(f"{root}/{pattern}"))
+        found = sorted(filter(os.path.isfile, glob.glob(f"{root}/{pattern}")))
         if not found and (pattern, folder) not in OPTIONAL:
             raise FileNotFoundError(f"`{root}/{pattern}`: it is missing; build it, or correct"
                                     " COPIED in tools/releases/tree.py")
