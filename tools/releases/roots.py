@@ -17,6 +17,7 @@ LISTS = f"{os.path.dirname(os.path.dirname(HERE))}/packaging/roots"
 KEPT = os.environ.get("AMO_ROOTS", "/var/cache/amo-roots.kept")
 SUITE, MIRROR = "bookworm", os.environ.get("AMO_MIRROR", "http://deb.debian.org/debian")
 LONGEST = 1200  # seconds that a script or the making of a root may take
+ENDS = ["setpriv", "--pdeathsig", "KILL"]  # a process that is started so ends with its parent
 ENVIRONMENT = ["PATH=/usr/local/sbin:/usr/local/bin:/usr/sbin:/usr/bin:/sbin:/bin", "HOME=/root",
                "LC_ALL=C.UTF-8", "DEBIAN_FRONTEND=noninteractive"]
 
@@ -80,11 +81,11 @@ def run(name: str, room: str, words: List[str]) -> str:
     group = f"{room}/groups/amo-trial-{os.getpid()}"
     steps = [f"mount -t cgroup2 none {shlex.quote(room)}/groups", f"mkdir -p {shlex.quote(group)}",
              f"echo $$ >{shlex.quote(group)}/cgroup.procs",
-             "unshare --mount --pid --net --ipc --uts --cgroup --fork --kill-child"
-             f" sh -euc {shlex.quote(entering(name, room, first))} || true",
+             f"{shlex.join(ENDS)} unshare --mount --pid --net --ipc --uts --cgroup --fork"
+             f" --kill-child sh -euc {shlex.quote(entering(name, room, first))} || true",
              f"echo $$ >{shlex.quote(room)}/groups/cgroup.procs",
              f"find {shlex.quote(group)} -depth -type d -exec rmdir {{}} +"]
-    ran = subprocess.run(["unshare", "--mount", "sh", "-euc", "\n".join(steps)],
+    ran = subprocess.run([*ENDS, "unshare", "--mount", "sh", "-euc", "\n".join(steps)],
                          stdin=subprocess.DEVNULL, stdout=subprocess.PIPE,
                          stderr=subprocess.STDOUT, text=True, errors="replace", timeout=LONGEST)
     return ran.stdout + (said_in(room) if boots else "")
