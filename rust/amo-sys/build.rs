@@ -14,7 +14,7 @@ fn main() {
     let folder = env::var_os("AMO_LIB_DIR").map_or(own, PathBuf::from);
     println!("cargo:rerun-if-env-changed=AMO_LIB_DIR");
     for name in ARCHIVES {
-        let path = folder.join(format!("lib{}.a", name));
+        let path = folder.join(format!("lib{name}.a"));
         println!("cargo:rerun-if-changed={}", path.display());
         if !path.is_file() {
             eprintln!(
@@ -24,7 +24,7 @@ fn main() {
             );
             exit(1);
         }
-        println!("cargo:rustc-link-lib=static={}", name);
+        println!("cargo:rustc-link-lib=static={name}");
     }
     println!("cargo:rustc-link-search=native={}", folder.display());
 }

@@ -126,7 +126,8 @@ pub const BEGINNING: u32 = 0;
 ///
 /// ```
 /// let givens = amo_sys::Givens { jobs: 1, workers: 1, beta: 1 };
-/// assert_eq!(amo_sys::next(&givens, 1, &[77]), Err(amo_sys::BAD_HEARD));
+/// let heard = [0, 5, 0]; // 5 claims of 1 job
+/// assert_eq!(amo_sys::next(&givens, 1, &heard), Err(amo_sys::BAD_HEARD));
 /// ```
 pub const BAD_HEARD: u32 = 7;
 /// The code of a call to which memory was refused. Nothing has changed.

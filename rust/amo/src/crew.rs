@@ -34,6 +34,11 @@ fn checked(workers: u32, jobs: u32, beta: u32) -> Result<Givens, Fault> {
     Ok(givens)
 }
 
+/// Returns a job of a register.
+fn job_of(value: u64) -> Result<u32, Fault> {
+    u32::try_from(value).map_err(|_| Fault::Damaged)
+}
+
 /// A run: so many jobs, shared by so many workers over registers.
 ///
 /// All processes of the run give the same numbers.
@@ -213,12 +218,13 @@ impl<R: Registers> Crew<R> {
         for worker in 1..=self.givens.workers {
             let row = self.row(worker)?;
             if self.load(amo_sys::claims_word(&self.givens, worker))? > row.len() as u64 {
-                in_hand.insert(self.load(amo_sys::announcement_word(&self.givens, worker))? as u32);
+                let word = amo_sys::announcement_word(&self.givens, worker);
+                in_hand.insert(job_of(self.load(word)?)?);
             }
             recorded.extend(row);
         }
         let is_free = |job: &u32| !recorded.contains(job) && !in_hand.contains(job);
-        let free = (1..=self.givens.jobs as u32).filter(is_free).collect();
+        let free = (1..=job_of(self.givens.jobs)?).filter(is_free).collect();
         let (recorded, in_hand) = (
             recorded.into_iter().collect(),
             in_hand.into_iter().collect(),
@@ -236,7 +242,7 @@ impl<R: Registers> Crew<R> {
         for k in 1..=self.givens.jobs {
             match self.load(amo_sys::entry_word(&self.givens, worker, k))? {
                 0 => break,
-                job => row.push(job as u32),
+                job => row.push(job_of(job)?),
             }
         }
         Ok(row)
