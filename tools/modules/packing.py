@@ -38,7 +38,7 @@ def run(words: List[str]) -> str:
 
 def heap() -> str:
     """Returns the path of the toolchain's archive that libamo_c.a needs."""
-    found = listing.kit()
+    found = listing.kit()  # type: ignore[no-untyped-call]
     if not found:
         raise Wrong(listing.NO_KIT)
     return f"{found}/c/liblibc_c.a"

@@ -21,17 +21,15 @@ import signal
 import subprocess
 import sys
 import time
+from functools import partial
 from typing import Callable, Dict, List
 
 sys.dont_write_bytecode = True
 
 from amo import jobs
+from trying import Wrong, try_all
 
 LINES = ["rent 700 to Ada", "rent 650 to Ben", "rent 500 to Cid"]
-
-
-class Wrong(Exception):
-    """What is wrong with a call."""
 
 
 def want(holds: bool, what: object) -> None:
@@ -198,15 +196,7 @@ def check(folder: str, file_system: str = "") -> int:
     tests: Dict[str, Callable[[str, List[str]], str]] = {
         "killed at each step": at_each_step, "a false answer": a_lie,
         "an early answer": too_early, "interrupted": interrupted}
-    failed = 0
-    for name, test in tests.items():
-        try:
-            print(f"lists: {name}: {test(folder, options)}", flush=True)
-        except (Wrong, jobs.Refused) as wrong:
-            print(f"lists: {name}: FAILED: {wrong}", flush=True)
-            failed += 1
-    print(f"{len(tests) - failed} passed, {failed} failed")
-    return 1 if failed else 0
+    return try_all("lists", {name: partial(test, folder, options) for name, test in tests.items()})
 
 
 def main(words: List[str]) -> int:

@@ -28,13 +28,10 @@ from typing import Callable, ContextManager, Dict, Iterator, List, Sequence, Tup
 sys.dont_write_bytecode = True
 
 import amo
+from trying import Wrong, try_all
 
 WORKERS, JOBS = 2, 3
 NEVER = 10**6  # a step that no process reaches
-
-
-class Wrong(Exception):
-    """What is wrong with a run."""
 
 
 class Plain:
@@ -281,15 +278,7 @@ def main(folder: str) -> int:
     for mistake in MISTAKES:
         checks[f"the mistake {mistake.__name__}"] = partial(caught, folder, mistake)
     checks["two at once"] = partial(two_at_once, folder)
-    failed = 0
-    for name, check in checks.items():
-        try:
-            print(f"stepped: {name}: {check()}")
-        except Wrong as wrong:
-            print(f"stepped: {name}: FAILED: {wrong}")
-            failed += 1
-    print(f"{len(checks) - failed} passed, {failed} failed")
-    return 1 if failed else 0
+    return try_all("stepped", checks)
 
 
 if __name__ == "__main__":
