@@ -11,22 +11,29 @@ class Wrong(Exception):
     """What is wrong with what is tried."""
 
 
+class Skipped(Exception):
+    """Why something isn't tried here."""
+
+
 def try_all(name: str, tests: Dict[str, Callable[[], object]],
             needed: Collection[str] = ()) -> int:
     """Makes these tests, and prints what came of each. If one that is needed fails, makes no other
-    one. Prints the counts at the end, and returns the exit status."""
-    passed = 0
+    one. Prints the counts at the end, without what was skipped, and returns the exit status."""
+    passed, total = 0, len(tests)
     for title, test in tests.items():
         try:
             last = str(test()).rpartition("\n")[2]
             print(f"{name}: {title}: ok{', ' if last else ''}{last}", flush=True)
             passed += 1
+        except Skipped as why:
+            print(f"{name}: {title}: skipped: {why}", flush=True)
+            total -= 1
         except (Wrong, OSError, RuntimeError, subprocess.TimeoutExpired) as wrong:
             print(f"{name}: {title}: FAILED: {wrong}", flush=True)
             if title in needed:
                 break
-    print(f"{passed} passed, {len(tests) - passed} failed")
-    return 0 if passed == len(tests) else 1
+    print(f"{passed} passed, {total - passed} failed")
+    return 0 if passed == total else 1
 
 
 def made_twice(tool: str, folder: str) -> str:
