@@ -112,7 +112,7 @@ class Words:
 
 
 class Memory(Words):
-    """Registers for the threads of one process.
+    """Registers for the threads of one process. A child process has a copy, and can't work on it.
 
     >>> registers = Memory(workers=2, jobs=3)
     >>> registers.load(1)
@@ -121,11 +121,16 @@ class Memory(Words):
 
     def __init__(self, workers: int, jobs: int):
         super().__init__(bytearray(size(workers, jobs)), workers, jobs)
+        self._process = os.getpid()
         self._locks: Dict[int, threading.Lock] = {it: threading.Lock()
                                                   for it in range(1, workers + 1)}
 
     def guard(self, number: int) -> Guard:
-        """Holds the number of a worker. Raises Taken if another part of this process holds it."""
+        """Holds the number of a worker. Raises Taken if another part of this process holds it, and
+        RuntimeError in another process."""
+        if os.getpid() != self._process:
+            raise RuntimeError(f"registers: they belong to process {self._process} alone; give"
+                               " processes a File, or a Shared")
         lock = self._locks[number]
         if not lock.acquire(blocking=False):
             raise taken(number)

@@ -73,20 +73,22 @@ class Loops(unittest.TestCase):
         self.assertEqual(worker.doubts, [1])
 
     def test_a_child_process_that_goes_on(self) -> None:
-        worker = alone(amo.Memory(1, 3))
+        worker, memory = alone(amo.Memory(1, 3)), amo.Memory(2, 3)
         loop = iter(worker)
         next(loop)
         child = os.fork()
         if child == 0:
             refused = 0
-            calls: List[Callable[[], object]] = [lambda: next(loop), lambda: iter(worker)]
+            calls: List[Callable[[], object]] = [lambda: next(loop), lambda: iter(worker),
+                                                 lambda: alone(amo.Memory(1, 3)),
+                                                 lambda: amo.Worker(memory, 2, 2, 3)]
             for call in calls:
                 try:
                     call()
                 except RuntimeError:
                     refused += 1
             os._exit(refused)
-        self.assertEqual(os.waitstatus_to_exitcode(os.waitpid(child, 0)[1]), 2)
+        self.assertEqual(os.waitstatus_to_exitcode(os.waitpid(child, 0)[1]), 3)
         self.assertEqual(list(loop), [2, 3])
 
     def test_a_failed_access_after_which_a_job_comes_again(self) -> None:
