@@ -9,7 +9,7 @@ from unittest import mock
 
 import package
 
-sys.path.insert(0, f"{package.ROOT}/tools/releases")
+sys.path[:0] = [f"{package.ROOT}/tools/releases", f"{package.ROOT}/tools/modules"]
 
 import follow
 import forms

@@ -10,12 +10,11 @@ import subprocess
 import sys
 from typing import Iterator, List, Tuple
 
+from packing import PAGES
+
 PLAN_PROGRAMS = ("amo", "amo_show", "amo_worker")  # these are built; the others are in Python
 PROGRAMS = (*PLAN_PROGRAMS, "amo_jobs", "amo_share")
 SUMS = "SHA256SUMS"
-PAGES = ("install", "commands", "operating", "watching", "machines", "processes", "stores",
-         "python", "rust")
-MOVED = ("JOBS", "MACHINES", "PROCESSES", "STORES", "FORMATS")  # old names that the programs print
 # The files that are copied: a pattern in the repository, and the folder that gets it. A pattern of
 # OPTIONAL may match nothing.
 COPIED = [
@@ -26,12 +25,7 @@ COPIED = [
     ("python/amo_watch/*.py", "python/amo_watch"),
     ("stores/*", "stores"),
     ("tools/launch", "tools"),
-    *((f"docs/guide/{it}.md", "docs/guide") for it in PAGES),
-    *((f"docs/{it}.md", "docs") for it in ("protocol", "formats", "comparison", "performance",
-                                           *MOVED)),
-    ("docs/pictures/*.svg", "docs/pictures"),
-    ("docs/*.schema.json", "docs"),
-    ("docs/help/*.txt", "docs/help"),
+    *((it, os.path.dirname(it)) for it in PAGES),
     ("examples/systemd/*", "examples/systemd"),
     ("examples/lines/*", "examples/lines"),
     *((f"examples/c/{it}", "c") for it in ("amo.h", "crew.c")),
