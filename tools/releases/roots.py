@@ -100,6 +100,7 @@ def entering(name: str, room: str, first: List[str]) -> str:
         f"mount -t overlay overlay -o {layers} {root}",
         f"mount --bind {shlex.quote(room)}/srv {root}/srv",
         f"mount -t proc proc {root}/proc", f"mount -t devpts devpts {root}/dev/pts",
+        f"mkdir -p {root}/dev/shm", f"mount -t tmpfs tmpfs {root}/dev/shm",
         f"mount -t tmpfs tmpfs {root}/run", f"mount -t tmpfs tmpfs {root}/sys",
         f"mkdir -p {root}/sys/fs/cgroup", f"mount -t cgroup2 none {root}/sys/fs/cgroup",
         f"exec chroot {root} {shlex.join(first)}"])
