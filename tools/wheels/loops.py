@@ -193,6 +193,14 @@ class Numbers(unittest.TestCase):
         with self.assertRaises(ValueError):
             amo.File(self.path, 1, 4)
 
+    def test_a_file_of_an_earlier_boot(self) -> None:
+        amo.File(self.path, 1, 3)
+        amo.File(self.path, 1, 3)
+        with open(f"{self.path}.boot", "w", encoding="ascii") as file:
+            file.write("00000000-0000-0000-0000-000000000000\n")
+        with self.assertRaisesRegex(ValueError, "earlier boot"):
+            amo.File(self.path, 1, 3)
+
     def test_a_place_beyond_the_registers(self) -> None:
         registers = amo.File(self.path, 1, 3)
         for place in (-1, amo.size(1, 3) // 8):
