@@ -159,7 +159,8 @@ class Shared(Words):
 
     def __init__(self, memory: SharedMemory, workers: int, jobs: int):
         super().__init__(memory.buf, workers, jobs)
-        self._path = f"/dev/shm/{memory.name.lstrip('/')}"
+        # kept, and freed after the bytes, since a memory that is in use can't be closed
+        self._memory, self._path = memory, f"/dev/shm/{memory.name.lstrip('/')}"
 
     def guard(self, number: int) -> Guard:
         """Holds the number of a worker, by a lock on a byte of the memory's file. Raises Taken if
