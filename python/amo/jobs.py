@@ -10,8 +10,7 @@ Begin with `run`. The list is a file with one job a line, such as
 >>> tonight = f"{folder.name}/tonight.txt"
 >>> with open(tonight, "w") as file:
 ...     _ = file.write("rent 700 to Ada\\nrent 650 to Ben\\n")
->>> run(tonight, ["echo", "pay", "{}"], workers=2, report=print)
-amo_jobs: 2 lines: 2 done, 0 failed, 0 in doubt, 0 running, 0 untouched, 0 open
+>>> run(tonight, ["echo", "pay", "{}"], workers=2, report=lambda line: None)
 <Ended.DONE: 0>
 >>> status(tonight).done, doubts(tonight)
 (2, [])
@@ -51,10 +50,10 @@ class Refused(RuntimeError):
     """A call that amo_jobs refuses, or can't perform. The text is its message.
 
     >>> try:
-    ...     status("no_such_list.txt")
+    ...     run("no_such_list.txt", ["echo"], workers=1)
     ... except Refused as refused:
     ...     print(refused.status)
-    77
+    74
     """
 
     def __init__(self, status: int, text: str):

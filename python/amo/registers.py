@@ -159,7 +159,8 @@ class Shared(Words):
 
     def __init__(self, memory: SharedMemory, workers: int, jobs: int):
         super().__init__(memory.buf, workers, jobs)
-        self._path = f"/dev/shm/{memory.name.lstrip('/')}"
+        # kept, and freed after the bytes, since a memory that is in use can't be closed
+        self._memory, self._path = memory, f"/dev/shm/{memory.name.lstrip('/')}"
 
     def guard(self, number: int) -> Guard:
         """Holds the number of a worker, by a lock on a byte of the memory's file. Raises Taken if
@@ -182,31 +183,58 @@ class File(Words):
     `PATH.NUMBER`. Don't remove these files while a worker lives. A program in C or Rust may share
     the file: examples/c/crew.c does.
 
-    **After a power cut, treat a file on a disk as lost**, and begin no new registers over the same
+    **Once the machine was started anew, the file is lost.** On a disk it may lack stores, so it is
+    refused then: `PATH.boot` has the boot that it belongs to. Begin no new registers over the same
     jobs, unless a journal of yours shows which jobs were begun: otherwise each may be performed
     again.
     """
 
     def __init__(self, path: Union[str, "os.PathLike[str]"], workers: int, jobs: int):
-        """Raises ValueError if the file belongs to a run with other numbers, and OSError."""
-        self._path, length = os.fspath(path), size(workers, jobs)
+        """Raises ValueError if the file belongs to a run with other numbers, or to an earlier boot
+        of the machine; and OSError."""
+        self._path, length = str(os.fspath(path)), size(workers, jobs)
         file = os.open(self._path, os.O_RDWR | os.O_CREAT | os.O_CLOEXEC, 0o600)
         try:
-            if os.fstat(file).st_size == 0:
-                os.truncate(file, length)
-            if os.fstat(file).st_size != length:
-                raise ValueError(f"`{self._path}`: it has {os.fstat(file).st_size} bytes, and the"
-                                 f" registers of this run have {length}; give the numbers of the"
-                                 " run that made it, or another path")
+            fcntl.flock(file, fcntl.LOCK_EX)  # since another process may make it too
+            self._make_or_check(file, length)
+            fcntl.flock(file, fcntl.LOCK_UN)
             super().__init__(mmap.mmap(file, length), workers, jobs)
         finally:
             os.close(file)
+
+    def _make_or_check(self, file: int, length: int) -> None:
+        """Makes the registers of an empty file, or checks those of another one."""
+        if os.fstat(file).st_size == 0:
+            with open(f"{self._path}.boot", "w", encoding="ascii") as note:
+                note.write(boot())
+            os.truncate(file, length)
+        if os.fstat(file).st_size != length:
+            raise ValueError(f"`{self._path}`: it has {os.fstat(file).st_size} bytes, and the"
+                             f" registers of this run have {length}; give the numbers of the run"
+                             " that made it, or another path")
+        check_boot(f"{self._path}.boot")
 
     def guard(self, number: int) -> Guard:
         """Holds the number of a worker, by a lock on the file `PATH.NUMBER`. Raises Taken if
         another process holds it, and OSError."""
         return guard_by(f"{self._path}.{number}", os.O_RDWR | os.O_CREAT, number,
                         lambda file: fcntl.flock(file, fcntl.LOCK_EX | fcntl.LOCK_NB))
+
+
+def boot() -> str:
+    """Returns the id of this boot of the machine."""
+    with open("/proc/sys/kernel/random/boot_id", encoding="ascii") as file:
+        return file.read()
+
+
+def check_boot(path: str) -> None:
+    """Raises ValueError if the file names another boot. A program in C makes none."""
+    if os.path.exists(path):
+        with open(path, encoding="ascii", errors="replace") as file:
+            if file.read() != boot():
+                raise ValueError(f"`{path}`: the registers are of an earlier boot of the machine,"
+                                 " so stores may be lost; perform no job of them again, and use"
+                                 " another path for other jobs")
 
 
 def guard_by(path: str, flags: int, number: int, lock: Callable[[int], object]) -> Guard:

@@ -29,6 +29,7 @@ sys.dont_write_bytecode = True
 from amo import jobs
 from trying import Wrong, try_all
 
+LONGEST = 300  # seconds of a call that is interrupted
 LINES = ["rent 700 to Ada", "rent 650 to Ben", "rent 500 to Cid"]
 
 
@@ -173,21 +174,31 @@ def interrupted(folder: str, options: List[str]) -> str:
     begun(folder)
     words = [sys.executable, os.path.abspath(__file__), "wait", folder, *options]
     with subprocess.Popen(words, stderr=subprocess.DEVNULL) as caller:
-        while not paid(folder):
+        while not paid(folder) and caller.poll() is None:
             time.sleep(0.02)
         caller.send_signal(signal.SIGINT)
-        caller.wait()
+        try:
+            caller.wait(LONGEST)
+        finally:
+            let_go(folder)
     found = jobs.status(f"{folder}/list.txt", options=options)
     want((found.done, found.open, found.doubt, found.alive) == (1, 2, 0, []), found)
     want(caller.returncode in (1, 130, -signal.SIGINT), caller.returncode)
     return f"status {caller.returncode}"
 
 
+def let_go(folder: str) -> None:
+    """Has the command of `wait` end."""
+    with open(f"{folder}/go", "w", encoding="ascii"):
+        pass
+
+
 def wait(folder: str, options: List[str]) -> None:
-    """Calls `run` with a command that pays at once, and ends later."""
-    script = 'echo "$1" >>"$0/paid"; sleep 2'
+    """Calls `run` with a command that pays at once, and ends once its crew got the interrupt."""
+    signal.signal(signal.SIGINT, signal.default_int_handler)  # which may be ignored at the start
+    script = 'echo "$1" >>"$0/paid"; until [ -e "$0/go" ]; do sleep 0.05; done'
     jobs.run(f"{folder}/list.txt", ["sh", "-c", script, folder], workers=1, options=options,
-             report=lambda line: None)
+             report=lambda line: let_go(folder) if "it got SIGINT" in line else None)
 
 
 def check(folder: str, file_system: str = "") -> int:

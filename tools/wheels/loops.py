@@ -6,13 +6,16 @@
 
 from __future__ import annotations
 
+import multiprocessing
 import os
+import random
 import subprocess
 import sys
 import tempfile
 import threading
 import time
 import unittest
+from multiprocessing.shared_memory import SharedMemory
 from typing import Callable, List
 
 sys.dont_write_bytecode = True
@@ -36,6 +39,24 @@ class Failing:
         if self.fails("store", place):
             raise OSError("the store fails")
         self.words[place] = value
+
+
+def note(path: str, word: str, job: int) -> None:
+    """Adds a line to a file that processes share."""
+    file = os.open(path, os.O_WRONLY | os.O_CREAT | os.O_APPEND, 0o600)
+    os.write(file, f"{word} {job}\n".encode())
+    os.close(file)
+
+
+def work_in_shared_memory(name: str, path: str, number: int) -> None:
+    """Works as a worker of 3 over 60 jobs. It is a process of `multiprocessing`."""
+    registers = amo.Shared(SharedMemory(name), 3, 60)
+    worker = amo.Worker(registers, number, 3, 60, wait=True)
+    for job in worker.doubts:
+        note(path, "doubt", job)
+    for job in worker:
+        note(path, "performed", job)
+        time.sleep(0.01)  # so that many kills come in the middle of a loop
 
 
 def alone(registers: amo.Registers, jobs: int = 3) -> amo.Worker:
@@ -143,6 +164,48 @@ class Loops(unittest.TestCase):
         self.assertGreaterEqual(len(performed), amo.bound(4, 200))
 
 
+class Processes(unittest.TestCase):
+    """Processes of `multiprocessing` that are killed at random, and begun again."""
+
+    def setUp(self) -> None:
+        folder = tempfile.TemporaryDirectory()
+        self.addCleanup(folder.cleanup)
+        self.path = f"{folder.name}/noted"
+        self.memory = SharedMemory(create=True, size=amo.size(3, 60))
+        self.addCleanup(self.memory.unlink)
+        self.addCleanup(self.memory.close)
+
+    def live(self, number: int, lives: int) -> None:
+        """Has processes work as this worker, of which all but the last are killed."""
+        for _ in range(lives):
+            process = multiprocessing.get_context("spawn").Process(
+                target=work_in_shared_memory, args=(self.memory.name, self.path, number))
+            process.start()
+            process.join(random.random())
+            process.kill()
+            process.join()
+        work_in_shared_memory(self.memory.name, self.path, number)
+
+    def noted(self, word: str) -> List[int]:
+        with open(self.path, encoding="ascii") as file:
+            return [int(it.split()[1]) for it in file if it.split()[0] == word]
+
+    def test_a_kill_after_which_a_job_is_performed_twice(self) -> None:
+        threads = [threading.Thread(target=self.live, args=(number, 4)) for number in (1, 2, 3)]
+        for it in threads:
+            it.start()
+        for it in threads:
+            it.join()
+        registers = amo.Shared(self.memory, 3, 60)
+        standing = amo.standing(registers, 3, 60)
+        registers.close()
+        performed, known = self.noted("performed"), {*self.noted("performed")}
+        known |= {*self.noted("doubt")}
+        self.assertEqual(len(set(performed)), len(performed), performed)
+        self.assertEqual((set(standing.recorded), standing.in_hand), (known, []))
+        self.assertGreaterEqual(len(standing.recorded), amo.bound(3, 60))
+
+
 class Numbers(unittest.TestCase):
     def setUp(self) -> None:
         folder = tempfile.TemporaryDirectory()
@@ -192,6 +255,14 @@ class Numbers(unittest.TestCase):
         amo.File(self.path, 1, 3)
         with self.assertRaises(ValueError):
             amo.File(self.path, 1, 4)
+
+    def test_a_file_of_an_earlier_boot(self) -> None:
+        amo.File(self.path, 1, 3)
+        amo.File(self.path, 1, 3)
+        with open(f"{self.path}.boot", "w", encoding="ascii") as file:
+            file.write("00000000-0000-0000-0000-000000000000\n")
+        with self.assertRaisesRegex(ValueError, "earlier boot"):
+            amo.File(self.path, 1, 3)
 
     def test_a_place_beyond_the_registers(self) -> None:
         registers = amo.File(self.path, 1, 3)

@@ -179,6 +179,7 @@ def in_file(path: str) -> Iterator[amo.Registers]:
         yield amo.File(path, WORKERS, JOBS)
     finally:
         os.unlink(path)
+        os.unlink(f"{path}.boot")
 
 
 @contextmanager

@@ -4,10 +4,13 @@ use crate::crew::words;
 use crate::fault::Fault;
 use crate::registers::{Lock, Registers};
 use std::ffi::OsString;
-use std::fs::{File, OpenOptions};
+use std::fs::{self, File, OpenOptions};
 use std::io;
 use std::os::unix::fs::OpenOptionsExt;
 use std::path::{Path, PathBuf};
+
+/// The file with the id of this boot.
+const BOOT: &str = "/proc/sys/kernel/random/boot_id";
 
 /// Registers in a file that processes map into their memory.
 ///
@@ -15,7 +18,8 @@ use std::path::{Path, PathBuf};
 /// `PATH.NUMBER`, which the kernel drops once the worker's process is gone. Don't remove these
 /// files while a worker lives. Programs in C and in Python may share the file.
 ///
-/// **After a power cut, treat a file on a disk as lost**, and begin no new registers over the same
+/// **Once the machine was started anew, the file is lost.** On a disk it may lack stores, so it is
+/// refused then: `PATH.boot` has the boot that it belongs to. Begin no new registers over the same
 /// jobs, unless a journal of yours shows which jobs were begun: otherwise each may be performed
 /// again.
 ///
@@ -43,8 +47,8 @@ impl MappedFile {
     ///
     /// # Errors
     ///
-    /// If a number breaks its limit, the file belongs to a run with other numbers, or it can't be
-    /// opened.
+    /// If a number breaks its limit, the file belongs to a run with other numbers or to an earlier
+    /// boot of the machine, or it can't be opened.
     ///
     /// # Examples
     ///
@@ -53,10 +57,14 @@ impl MappedFile {
     /// ```
     pub fn open(path: impl AsRef<Path>, workers: u32, jobs: u32) -> Result<MappedFile, Fault> {
         let count = words(workers, jobs)?;
-        let file = opened(path.as_ref())?;
+        let (file, boot) = (opened(path.as_ref())?, beside(path.as_ref(), "boot"));
+        let gate = opened(path.as_ref())?; // of its own, since a mapping keeps its file locked
+        amo_sys::lock(&gate, true)?; // another process may make the file too
         if file.metadata()?.len() == 0 {
+            fs::write(&boot, fs::read(BOOT)?)?;
             file.set_len(8 * count as u64)?;
         }
+        check_boot(&boot)?;
         let found = file.metadata()?.len();
         if found != 8 * count as u64 {
             let text = format!(
@@ -85,6 +93,27 @@ fn opened(path: &Path) -> io::Result<File> {
         .open(path)
 }
 
+/// Returns the path of a file beside the registers.
+fn beside(path: &Path, ending: &str) -> PathBuf {
+    let mut found = OsString::from(path);
+    found.push(".");
+    found.push(ending);
+    found.into()
+}
+
+/// Refuses a file that names another boot. A program in C makes none.
+fn check_boot(path: &Path) -> io::Result<()> {
+    if !path.exists() || fs::read(path)? == fs::read(BOOT)? {
+        return Ok(());
+    }
+    let text = format!(
+        "`{}`: the registers are of an earlier boot of the machine, so stores may be lost; perform \
+         no job of them again, and use another path for other jobs",
+        path.display()
+    );
+    Err(io::Error::new(io::ErrorKind::InvalidData, text))
+}
+
 impl Registers for MappedFile {
     fn load(&self, place: usize) -> io::Result<u64> {
         Registers::load(&self.map[..], place)
@@ -95,9 +124,7 @@ impl Registers for MappedFile {
     }
 
     fn lock(&self, number: u32, waits: bool) -> io::Result<Option<Lock>> {
-        let mut path = OsString::from(&self.path);
-        path.push(format!(".{number}"));
-        let file = opened(Path::new(&path))?;
+        let file = opened(&beside(&self.path, &number.to_string()))?;
         Ok(if amo_sys::lock(&file, waits)? {
             Some(Lock::of(file))
         } else {

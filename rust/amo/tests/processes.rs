@@ -187,6 +187,25 @@ fn two_processes_of_one_number() {
 }
 
 #[test]
+fn a_file_of_an_earlier_boot() {
+    let folder = env::temp_dir().join(format!("amo-boot.{}", process::id()));
+    fs::create_dir(&folder).expect("a folder");
+    let path = folder.join("words");
+    MappedFile::open(&path, 2, 3).expect("a file");
+    MappedFile::open(&path, 2, 3).expect("the same file");
+    fs::write(
+        folder.join("words.boot"),
+        "00000000-0000-0000-0000-000000000000\n",
+    )
+    .expect("room");
+    assert!(matches!(
+        MappedFile::open(&path, 2, 3),
+        Err(amo::Fault::Registers(_))
+    ));
+    fs::remove_dir_all(&folder).expect("the folder");
+}
+
+#[test]
 fn a_file_of_another_run() {
     let folder = env::temp_dir().join(format!("amo-other.{}", process::id()));
     fs::create_dir(&folder).expect("a folder");
