@@ -182,7 +182,8 @@ fn two_processes_of_one_number() {
     assert!(matches!(two.worker(1), Err(amo::Fault::Taken(1))));
     assert!(!ended(&folder, 1, NEVER).success()); // nor can another process
     drop(worker);
-    assert!(two.worker(1).is_ok());
+    // another test's child may have the lock too, until it becomes its program
+    assert!(two.worker_when_free(1).is_ok());
     fs::remove_dir_all(&folder).expect("the folder");
 }
 
