@@ -2,13 +2,15 @@
 """Crews of the example programs over one file, killed by SIGKILL and begun again, and what they
 wrote.
 
-  crews.py LIBRARY FOLDER RUNS SEED COMMAND..
+  crews.py FOLDER RUNS SEED COMMAND..
 
-Each COMMAND starts an example, as crew or amo.py with its library; it is given FILE JOBS WORKERS P.
-One of them, drawn at random, works as each worker, and once that has its lock a second process
-waits for its death. The files lie in FOLDER. No job may be written twice. Each filed job is
-written, or reported as in doubt. At least the bound is filed. The last line has the number of
+Each COMMAND starts an example, such as crew or examples/python/crew.py; it is given FILE JOBS
+WORKERS P. One of them, drawn at random, works as each worker, and once that has its lock a second
+process waits for its death. The files lie in FOLDER. No job may be written twice. Each recorded job
+is written, or reported as in doubt. At least the bound is recorded. The last line has the number of
 written jobs; the status is 0 if all was so.
+
+It needs the module `amo` with its library, as the wheel has it.
 """
 
 import fcntl
@@ -20,7 +22,6 @@ import sys
 import time
 
 sys.dont_write_bytecode = True
-sys.path.insert(0, os.path.join(os.path.dirname(os.path.realpath(__file__)), "../../examples/c"))
 
 import amo
 
@@ -69,10 +70,9 @@ class Process:
         return jobs, [int(line.split()[1]) for line in err.splitlines()]
 
 
-def crew_of(library_path, file, draws, commands):
+def crew_of(file, draws, commands):
     """One run: how many jobs were written, and how many processes were killed."""
     workers, jobs = draws.randint(1, 5), draws.randint(0, 60)
-    library = amo.Library(library_path, jobs, workers, workers)
     processes, killed = [], 0
     try:
         for p in range(1, workers + 1):
@@ -90,20 +90,19 @@ def crew_of(library_path, file, draws, commands):
             process.run.kill()
             process.run.wait()
     written, doubted = [sum(it, []) for it in zip(*ends)]
-    words = amo.Words(library, file)
-    filed = [job for p in range(1, workers + 1) for job in library.row(words, p)]
+    filed = amo.standing(amo.File(file, workers, jobs), workers, jobs).recorded
     want(len(set(written)) == len(written), f"written twice: {sorted(it for it in set(written) if written.count(it) > 1)}")
     want(len(set(filed)) == len(filed), f"filed twice: {filed}")
     want(set(written) <= set(filed) <= set(written) | set(doubted), f"written {written}, filed {filed}, in doubt {doubted}")
-    want(len(filed) >= library.bound(), f"{len(filed)} of {jobs} jobs are filed")
+    want(len(filed) >= amo.bound(workers, jobs), f"{len(filed)} of {jobs} jobs are filed")
     return len(written), killed
 
 
-def main(library, folder, runs, seed, *commands):
+def main(folder, runs, seed, *commands):
     draws, sums = random.Random(int(seed)), [0, 0]
     try:
         for run in range(int(runs)):
-            sums = [sum(it) for it in zip(sums, crew_of(library, f"{folder}/words.{run}", draws, commands))]
+            sums = [sum(it) for it in zip(sums, crew_of(f"{folder}/words.{run}", draws, commands))]
     except Wrong as wrong:
         print(f"run {run}: {wrong}")
         return 1

@@ -2,7 +2,7 @@
 """Compares workers by amo_next and amo_batch, over one list of words, with the replay of the same
 schedule.
 
-  differ.py LIBRARY REPLAY RUNS SEED
+  differ.py REPLAY RUNS SEED
 
 REPLAY is the built amo, or bench/replay.rs, as it is started to replay a plan on standard input.
 Each run is a random plan: turns, bursts of turns, stops, leaves and rounds. A worker here has
@@ -12,18 +12,18 @@ and then though something is. amo_next must return the first access that is left
 jobs that were claimed, performed and filed, the workers that ended and when, and the counts of each
 worker must be those of the report. The last line states how much was compared; the status is 0 if
 all was the same.
+
+It needs the module `amo` with its library, as the wheel has it.
 """
 
-import os
 import random
 import shlex
 import subprocess
 import sys
 
 sys.dont_write_bytecode = True
-sys.path.insert(0, os.path.join(os.path.dirname(os.path.realpath(__file__)), "../../examples/c"))
 
-import amo
+from amo import library as amo
 
 
 class Wrong(Exception):
@@ -73,7 +73,7 @@ class Worker:
         want(as_access(self.items[0]) == (told.access, told.word, told.value), "another access is left of the batch")
         want(told.doubt == 0 and (told.perform == 0) == (told.phase != amo.HOLDING), "another job is to be performed")
         if told.phase == amo.CLAIMING:
-            self.job = self.words[self.library.calls.amo_announcement_word(self.library.givens, self.number)]
+            self.job = self.words[self.library.announcement(self.number)]
         if told.phase == amo.HOLDING:
             want(told.perform == self.job == told.value, f"job {told.perform}, where {self.job} was claimed")
         self.make(told)
@@ -103,10 +103,9 @@ class Worker:
         """A worker that may not leave stays."""
         if self.state != "running":
             return
-        try:
-            told = self.library.leave(self.number, self.heard)
-        except amo.Refused as refused:
-            want(refused.code == amo.MAY_NOT_LEAVE and self.told().phase == amo.HOLDING, f"it is refused to leave: {refused}")
+        told = self.library.leave(self.number, self.heard)
+        if told is None:
+            want(self.told().phase == amo.HOLDING, "it is refused to leave without a job in hand")
             return
         self.words[told.word] = told.value
         self.turns += 1
@@ -161,12 +160,12 @@ def replayed(command, jobs, workers, beta, schedule, rounds):
     return [line for line in ran.stdout.splitlines() if line.split()[0].isdecimal() or line.startswith("worker")]
 
 
-def main(path, command, runs, seed):
+def main(command, runs, seed):
     draws, accesses, events = random.Random(int(seed)), 0, 0
     for run in range(int(runs)):
         jobs, workers, beta, schedule, rounds = draw_plan(draws)
         try:
-            found, more = followed(amo.Library(path, jobs, workers, beta), draws, schedule, rounds)
+            found, more = followed(amo.Library(jobs, workers, beta), draws, schedule, rounds)
             wanted = replayed(command, jobs, workers, beta, schedule, rounds)
             want(found == wanted, "".join(f"\n  {a}, replay: {b}" for a, b in zip(found, wanted) if a != b) or "of other length")
         except Wrong as wrong:

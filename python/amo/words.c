@@ -1,4 +1,5 @@
-/* What Python lacks: a load and a store of a shared word, sequentially consistent, for the shared library that amo.py uses. */
+/* A load and a store of a register at an address, sequentially consistent. The shared library
+   libamo.so has them, since Python has no such accesses. */
 #include <stdatomic.h>
 #include <stdint.h>
 

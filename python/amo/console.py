@@ -1,0 +1,46 @@
+"""The programs of the package as commands: amo, amo_show, amo_worker, amo_jobs and amo_share."""
+
+from __future__ import annotations
+
+import os
+import sys
+
+from amo.version import PROGRAMS
+
+
+def amo() -> None:
+    """Becomes the program amo."""
+    _become("amo")
+
+
+def amo_show() -> None:
+    """Becomes the program amo_show."""
+    _become("amo_show")
+
+
+def amo_worker() -> None:
+    """Becomes the program amo_worker."""
+    _become("amo_worker")
+
+
+def amo_jobs() -> int:
+    """Does what amo_jobs does, and returns its status."""
+    _find_modules()
+    from amo_jobs import cli
+    return cli.main(sys.argv[1:])
+
+
+def amo_share() -> int:
+    """Does what amo_share does, and returns its status."""
+    _find_modules()
+    from amo_jobs import share
+    return share.main(sys.argv[1:])
+
+
+def _become(name: str) -> None:
+    os.execv(f"{PROGRAMS}/{name}", [name, *sys.argv[1:]])
+
+
+def _find_modules() -> None:
+    sys.dont_write_bytecode = True
+    sys.path.insert(0, f"{PROGRAMS}/python")

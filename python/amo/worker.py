@@ -1,0 +1,254 @@
+"""One worker of a run, and how far a run is. Begin with `Worker`."""
+
+from __future__ import annotations
+
+import os
+import threading
+from contextlib import contextmanager
+from typing import Iterator, List, NamedTuple, Optional
+
+from amo.library import BEGINNING, NOTHING, STORE, Heard, Item, Library, Next
+from amo.registers import Registers, guarded
+
+
+class Life:
+    """The time of one process as a worker: what it has read, and the job in its hand."""
+
+    def __init__(self, library: Library, registers: Registers, number: int):
+        """Begins, and loads the worker's own registers. `doubt` is the job that an earlier process
+        had in its hand, or 0."""
+        self.library, self.registers, self.number = library, registers, number
+        self.heard, self.job = Heard(), 0
+        self.items: List[Item] = []
+        told = self._told()
+        while told.phase == BEGINNING:
+            self.carry_out()
+            told = self._told()
+        self.doubt = int(told.doubt)
+
+    def _told(self) -> Next:
+        told, self.items = self.library.batch(self.number, self.heard)
+        return told
+
+    def ask(self) -> bool:
+        """Finds out what is next; `job` is the job to perform, or 0. Returns False if the worker
+        has ended."""
+        told = self._told()
+        self.job = int(told.perform)
+        return bool(told.access != NOTHING)
+
+    def carry_out(self) -> None:
+        """Makes the accesses of the batch. The first one records the job in hand as done."""
+        for item in self.items:
+            self._access(item)
+            self.job = 0
+
+    def _access(self, item: Item) -> None:
+        if item.access == STORE:
+            self.registers.store(item.word, item.value)
+            self.heard.add(0)
+            return
+        for place in range(item.word, max(item.word, item.value) + 1):
+            number = self.registers.load(place)
+            self.heard.add(number)
+            if number == 0:
+                return
+
+    def leave(self) -> bool:
+        """Takes back the announcement. Returns False, and does nothing, if the worker may not leave
+        now."""
+        told = self.library.leave(self.number, self.heard)
+        if told is None:
+            return False
+        self.registers.store(told.word, told.value)
+        return True
+
+
+class Worker:
+    """A worker: a loop over it performs jobs that no other worker of the run performs.
+
+    >>> from amo import Memory, Worker
+    >>> registers = Memory(workers=1, jobs=3)
+    >>> worker = Worker(registers, number=1, workers=1, jobs=3)
+    >>> for job in worker:
+    ...     print("pay", job)
+    pay 1
+    pay 2
+    pay 3
+
+    The body of the loop performs the job. When the loop asks for the next one, the job is recorded
+    as done. If the body raises an exception, or leaves the loop, the job is *in doubt*: it may have
+    been performed, and no worker gets it again. Another loop over the worker goes on with others.
+
+    >>> registers = Memory(workers=1, jobs=3)
+    >>> with Worker(registers, number=1, workers=1, jobs=3) as worker:
+    ...     for job in worker:
+    ...         break
+    ...     print(worker.doubts, list(worker))
+    [1] [2, 3]
+
+    A process may be killed at any moment. The next one of that number finds the job in doubt, if
+    there is one, when it makes its Worker: look at `doubts` before the loop, which records the job
+    as done. If other workers end as they are killed, up to `beta + workers - 2` jobs stay undone.
+
+    One thread uses a worker at a time.
+    """
+
+    def __init__(self, registers: Registers, number: int, workers: int, jobs: int, *,
+                 beta: Optional[int] = None, wait: bool = False):
+        """Begins as the worker `number`, from 1 to `workers`, of a run with so many jobs. All
+        processes of the run give the same `workers`, `jobs` and `beta`, the threshold, which is
+        `workers` if it isn't given.
+
+        Raises Taken if another process acts as this worker; with `wait`, waits until it is gone.
+        Raises ValueError if a number is beyond its limit, Damaged if the registers hold a value
+        that no worker stores, and whatever the registers raise.
+        """
+        self.number = number
+        self._library, self._registers = Library(jobs, workers, beta), registers
+        self._library.next(number, Heard())  # which is refused if there is no such worker
+        self._process, self._lock, self._leaves = os.getpid(), threading.RLock(), False
+        self._doubts: List[int] = []
+        self._guard = guarded(registers, number, wait)
+        try:
+            self._life: Optional[Life] = self._begun()
+        except BaseException:
+            self._guard.close()
+            raise
+        self._is_new = True
+
+    @property
+    def doubts(self) -> List[int]:
+        """The jobs in doubt that this worker knows of: the one that an earlier process had in its
+        hand, and those of loops that were left. Nobody performs them. Find out what became of
+        each."""
+        return list(self._doubts)
+
+    def __iter__(self) -> Iterator[int]:
+        """Begins a loop. An earlier loop over this worker can't go on."""
+        with self._lock:
+            if not self._is_new or self._life is None:
+                self._check(self._life)
+                self._life = self._begun()
+            self._is_new = self._leaves = False
+            return self._jobs(self._life)
+
+    def leave(self) -> None:
+        """Has the loop end once its job is recorded as done, so that other workers get the rest.
+
+        >>> from amo import Memory, Worker
+        >>> worker = Worker(Memory(workers=1, jobs=9), number=1, workers=1, jobs=9)
+        >>> for job in worker:
+        ...     if job == 2:
+        ...         worker.leave()
+        >>> worker.doubts
+        []
+        """
+        self._leaves = True
+
+    def fileno(self) -> int:
+        """Returns the descriptor of the lock that shows that this worker lives.
+
+        Hand it to a command that performs a job, by `pass_fds=[worker.fileno()]` of subprocess.run.
+        Then nobody else begins as this worker before the command is gone too. Raises OSError if the
+        registers have no such lock.
+        """
+        return self._guard.fileno()
+
+    def close(self) -> None:
+        """Ends the worker, so that another process may begin with its number. The job in hand is in
+        doubt."""
+        with self._lock:
+            self._end(self._life)
+            self._guard.close()
+
+    def __enter__(self) -> Worker:
+        return self
+
+    def __exit__(self, *_: object) -> None:
+        self.close()
+
+    def _begun(self) -> Life:
+        life = Life(self._library, self._registers, self.number)
+        self._add_doubt(life.doubt)
+        return life
+
+    def _jobs(self, life: Life) -> Iterator[int]:
+        try:
+            while True:
+                with self._turn(life):
+                    if self._leaves and life.leave() or not life.ask():
+                        return
+                if life.job:
+                    yield life.job
+                with self._turn(life):
+                    life.carry_out()
+        finally:
+            self._end(life)
+
+    @contextmanager
+    def _turn(self, life: Life) -> Iterator[None]:
+        """Keeps every other loop over this worker away meanwhile."""
+        with self._lock:
+            self._check(life)
+            yield
+
+    def _check(self, life: Optional[Life]) -> None:
+        """Raises RuntimeError if this life can't go on."""
+        if not self._guard.is_open:
+            raise RuntimeError(f"worker {self.number}: it is closed; make another Worker")
+        if life is not self._life:
+            raise RuntimeError(f"worker {self.number}: another loop over it has begun; go on with"
+                               " that one")
+        if self._process != os.getpid():
+            raise RuntimeError(f"worker {self.number}: it belongs to process {self._process}; make"
+                               " a Worker in the process that uses it")
+
+    def _end(self, life: Optional[Life]) -> None:
+        with self._lock:
+            if life:
+                self._add_doubt(life.job)
+            if life is self._life:
+                self._life = None
+
+    def _add_doubt(self, job: int) -> None:
+        if job and job not in self._doubts:
+            self._doubts.append(job)
+
+
+class Standing(NamedTuple):
+    """How far a run is. Each list is in rising order."""
+
+    recorded: List[int]  # recorded as done; those in doubt among them
+    in_hand: List[int]  # claimed, and not recorded: at work, or in doubt if the process is dead
+    free: List[int]  # claimed by nobody
+
+
+def standing(registers: Registers, workers: int, jobs: int) -> Standing:
+    """Returns how far a run is. It is exact if no worker makes an access meanwhile.
+
+    >>> from amo import Memory, Worker
+    >>> registers = Memory(workers=2, jobs=4)
+    >>> jobs = list(Worker(registers, number=1, workers=2, jobs=4))
+    >>> standing(registers, workers=2, jobs=4)
+    Standing(recorded=[1, 2, 3], in_hand=[], free=[4])
+    """
+    library = Library(jobs, workers)
+    words = [registers.load(place) for place in range(library.word_count())]
+    recorded, in_hand = [], []
+    for worker in range(1, workers + 1):
+        row = library.row(words, worker)
+        recorded += row
+        if words[library.claims(worker)] > len(row):
+            in_hand.append(words[library.announcement(worker)])
+    free = set(range(1, jobs + 1)) - {*recorded, *in_hand}
+    return Standing(sorted(recorded), sorted(in_hand), sorted(free))
+
+
+def bound(workers: int, jobs: int, beta: Optional[int] = None) -> int:
+    """Returns how many jobs are recorded as done at least, once a worker has ended.
+
+    >>> bound(workers=2, jobs=10)
+    8
+    """
+    return Library(jobs, workers, beta).bound()

@@ -1,0 +1,134 @@
+//! Registers in a file, for processes.
+
+use crate::crew::words;
+use crate::fault::Fault;
+use crate::registers::{Lock, Registers};
+use std::ffi::OsString;
+use std::fs::{self, File, OpenOptions};
+use std::io;
+use std::os::unix::fs::OpenOptionsExt;
+use std::path::{Path, PathBuf};
+
+/// The file with the id of this boot.
+const BOOT: &str = "/proc/sys/kernel/random/boot_id";
+
+/// Registers in a file that processes map into their memory.
+///
+/// Choose a file in memory, such as one in /dev/shm. Each worker has a lock on a file beside it,
+/// `PATH.NUMBER`, which the kernel drops once the worker's process is gone. Don't remove these
+/// files while a worker lives. Programs in C and in Python may share the file.
+///
+/// **Once the machine was started anew, the file is lost.** On a disk it may lack stores, so it is
+/// refused then: `PATH.boot` has the boot that it belongs to. Begin no new registers over the same
+/// jobs, unless a journal of yours shows which jobs were begun: otherwise each may be performed
+/// again.
+///
+/// # Examples
+///
+/// ```
+/// # fn main() -> Result<(), amo::Fault> {
+/// # let folder = std::env::temp_dir().join(format!("amo-file.{}", std::process::id()));
+/// # std::fs::create_dir(&folder)?;
+/// let path = folder.join("words");
+/// let crew = amo::Crew::new(amo::MappedFile::open(&path, 2, 10)?, 2, 10)?;
+/// crew.worker(1)?.run(|job| println!("pay {job}"), |_| ())?;
+/// # std::fs::remove_dir_all(folder)?;
+/// # Ok(())
+/// # }
+/// ```
+#[derive(Debug)]
+pub struct MappedFile {
+    path: PathBuf,
+    map: amo_sys::Map,
+}
+
+impl MappedFile {
+    /// Opens the file of a run with so many workers and jobs, and makes it if it is missing.
+    ///
+    /// # Errors
+    ///
+    /// If a number breaks its limit, the file belongs to a run with other numbers or to an earlier
+    /// boot of the machine, or it can't be opened.
+    ///
+    /// # Examples
+    ///
+    /// ```
+    /// assert!(amo::MappedFile::open("/no/such/folder/words", 2, 10).is_err());
+    /// ```
+    pub fn open(path: impl AsRef<Path>, workers: u32, jobs: u32) -> Result<MappedFile, Fault> {
+        let count = words(workers, jobs)?;
+        let (file, boot) = (opened(path.as_ref())?, beside(path.as_ref(), "boot"));
+        let gate = opened(path.as_ref())?; // of its own, since a mapping keeps its file locked
+        amo_sys::lock(&gate, true)?; // another process may make the file too
+        if file.metadata()?.len() == 0 {
+            fs::write(&boot, fs::read(BOOT)?)?;
+            file.set_len(8 * count as u64)?;
+        }
+        check_boot(&boot)?;
+        let found = file.metadata()?.len();
+        if found != 8 * count as u64 {
+            let text = format!(
+                "`{}`: it has {found} bytes, and the registers of this run have {}; give the \
+                 numbers of the run that made it, or another path",
+                path.as_ref().display(),
+                8 * count
+            );
+            return Err(io::Error::new(io::ErrorKind::InvalidInput, text).into());
+        }
+        let map = amo_sys::Map::new(&file, count)?;
+        Ok(MappedFile {
+            path: path.as_ref().to_owned(),
+            map,
+        })
+    }
+}
+
+fn opened(path: &Path) -> io::Result<File> {
+    OpenOptions::new()
+        .read(true)
+        .write(true)
+        .create(true)
+        .truncate(false)
+        .mode(0o600)
+        .open(path)
+}
+
+/// Returns the path of a file beside the registers.
+fn beside(path: &Path, ending: &str) -> PathBuf {
+    let mut found = OsString::from(path);
+    found.push(".");
+    found.push(ending);
+    found.into()
+}
+
+/// Refuses a file that names another boot. A program in C makes none.
+fn check_boot(path: &Path) -> io::Result<()> {
+    if !path.exists() || fs::read(path)? == fs::read(BOOT)? {
+        return Ok(());
+    }
+    let text = format!(
+        "`{}`: the registers are of an earlier boot of the machine, so stores may be lost; perform \
+         no job of them again, and use another path for other jobs",
+        path.display()
+    );
+    Err(io::Error::new(io::ErrorKind::InvalidData, text))
+}
+
+impl Registers for MappedFile {
+    fn load(&self, place: usize) -> io::Result<u64> {
+        Registers::load(&self.map[..], place)
+    }
+
+    fn store(&self, place: usize, value: u64) -> io::Result<()> {
+        Registers::store(&self.map[..], place, value)
+    }
+
+    fn lock(&self, number: u32, waits: bool) -> io::Result<Option<Lock>> {
+        let file = opened(&beside(&self.path, &number.to_string()))?;
+        Ok(if amo_sys::lock(&file, waits)? {
+            Some(Lock::of(file))
+        } else {
+            None
+        })
+    }
+}

@@ -1,0 +1,166 @@
+//! The registers that the workers of a run share.
+
+use std::fs::File;
+use std::io;
+use std::sync::atomic::{AtomicU64, Ordering::SeqCst};
+use std::sync::Arc;
+
+/// The registers of a run, which its workers share.
+///
+/// All are 0 at first, only workers of one run write to them, and all processes see the accesses in
+/// one order. They outlive the processes. [`MappedFile`](crate::MappedFile) has registers for
+/// processes, and a slice of [`AtomicU64`] those for threads.
+///
+/// **If `lock` holds nothing, make sure that no two workers of one number live at once** in
+/// different processes, or in different crews of one process. Otherwise jobs are performed twice,
+/// and nothing shows it.
+///
+/// # Examples
+///
+/// Registers that count their accesses:
+///
+/// ```
+/// use amo::Registers;
+/// use std::io;
+/// use std::sync::atomic::{AtomicU64, Ordering::SeqCst};
+///
+/// struct Counted(Vec<AtomicU64>, AtomicU64);
+///
+/// impl Registers for Counted {
+///     fn load(&self, place: usize) -> io::Result<u64> {
+///         self.1.fetch_add(1, SeqCst);
+///         self.0.load(place)
+///     }
+///
+///     fn store(&self, place: usize, value: u64) -> io::Result<()> {
+///         self.1.fetch_add(1, SeqCst);
+///         self.0.store(place, value)
+///     }
+/// }
+///
+/// # fn main() -> Result<(), amo::Fault> {
+/// let words = (0..amo::words(1, 3)?).map(|_| AtomicU64::new(0)).collect();
+/// let crew = amo::Crew::new(Counted(words, AtomicU64::new(0)), 1, 3)?;
+/// crew.worker(1)?.run(|_| (), |_| ())?;
+/// assert_eq!(crew.registers().1.load(SeqCst), 12); // 3 loads at the start, and 3 for each job
+/// # Ok(())
+/// # }
+/// ```
+pub trait Registers {
+    /// Returns the value of the register at this place.
+    ///
+    /// # Errors
+    ///
+    /// Whatever keeps it from being loaded.
+    fn load(&self, place: usize) -> io::Result<u64>;
+
+    /// Stores a value in the register at this place, and returns once all see it.
+    ///
+    /// # Errors
+    ///
+    /// Whatever keeps it from being stored. It may have been stored all the same.
+    fn store(&self, place: usize, value: u64) -> io::Result<()>;
+
+    /// Holds the number of a worker, or returns None if another process holds it. If `waits` is
+    /// true, it waits until the number is free.
+    ///
+    /// # Errors
+    ///
+    /// Whatever keeps the lock from being tried.
+    fn lock(&self, number: u32, waits: bool) -> io::Result<Option<Lock>> {
+        let _ = (number, waits);
+        Ok(Some(Lock::default()))
+    }
+}
+
+/// What holds the number of a worker until it is dropped: the lock of a file, or nothing.
+///
+/// # Examples
+///
+/// ```
+/// assert!(amo::Lock::default().file().is_none());
+/// ```
+#[derive(Debug, Default)]
+pub struct Lock(Option<File>);
+
+impl Lock {
+    /// Returns the lock that this file holds until its last descriptor is closed.
+    ///
+    /// # Examples
+    ///
+    /// ```
+    /// let file = std::fs::File::open("/dev/null").unwrap();
+    /// assert!(amo::Lock::of(file).file().is_some());
+    /// ```
+    pub fn of(file: File) -> Lock {
+        Lock(Some(file))
+    }
+
+    /// Returns the file that holds the lock. A command that gets a copy of it, such as its standard
+    /// input, holds the lock too.
+    ///
+    /// # Examples
+    ///
+    /// ```
+    /// assert!(amo::Lock::default().file().is_none());
+    /// ```
+    pub fn file(&self) -> Option<&File> {
+        self.0.as_ref()
+    }
+}
+
+fn missing(place: usize, count: usize) -> io::Error {
+    let text = format!("register {place}: there are {count}; give those of the whole run");
+    io::Error::new(io::ErrorKind::InvalidInput, text)
+}
+
+impl Registers for [AtomicU64] {
+    fn load(&self, place: usize) -> io::Result<u64> {
+        let word = self.get(place).ok_or_else(|| missing(place, self.len()))?;
+        Ok(word.load(SeqCst))
+    }
+
+    fn store(&self, place: usize, value: u64) -> io::Result<()> {
+        let word = self.get(place).ok_or_else(|| missing(place, self.len()))?;
+        word.store(value, SeqCst);
+        Ok(())
+    }
+}
+
+impl Registers for Vec<AtomicU64> {
+    fn load(&self, place: usize) -> io::Result<u64> {
+        Registers::load(&self[..], place)
+    }
+
+    fn store(&self, place: usize, value: u64) -> io::Result<()> {
+        Registers::store(&self[..], place, value)
+    }
+}
+
+impl<R: Registers + ?Sized> Registers for &R {
+    fn load(&self, place: usize) -> io::Result<u64> {
+        (**self).load(place)
+    }
+
+    fn store(&self, place: usize, value: u64) -> io::Result<()> {
+        (**self).store(place, value)
+    }
+
+    fn lock(&self, number: u32, waits: bool) -> io::Result<Option<Lock>> {
+        (**self).lock(number, waits)
+    }
+}
+
+impl<R: Registers + ?Sized> Registers for Arc<R> {
+    fn load(&self, place: usize) -> io::Result<u64> {
+        (**self).load(place)
+    }
+
+    fn store(&self, place: usize, value: u64) -> io::Result<()> {
+        (**self).store(place, value)
+    }
+
+    fn lock(&self, number: u32, waits: bool) -> io::Result<Option<Lock>> {
+        (**self).lock(number, waits)
+    }
+}

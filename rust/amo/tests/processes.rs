@@ -1,0 +1,220 @@
+//! Processes over a mapped file, which are killed by SIGKILL at each of their accesses in turn.
+
+use amo::{Crew, Lock, MappedFile, Registers};
+use std::cell::Cell;
+use std::fs::{self, OpenOptions};
+use std::io::{self, Write};
+use std::os::unix::process::ExitStatusExt;
+use std::path::{Path, PathBuf};
+use std::process::{self, Command, ExitStatus};
+use std::{env, thread, time::Duration};
+
+const WORKERS: u32 = 2;
+const JOBS: u32 = 3;
+const NEVER: u32 = u32::MAX;
+const FOLDER: &str = "AMO_TEST_FOLDER"; // the variables of a process that works
+const NUMBER: &str = "AMO_TEST_NUMBER";
+const DIES_AT: &str = "AMO_TEST_DIES_AT";
+
+/// Registers whose process is killed before an access.
+struct Dying {
+    file: MappedFile,
+    left: Cell<u32>,
+}
+
+impl Dying {
+    fn step(&self) {
+        match self.left.get() {
+            0 => die(),
+            left => self.left.set(left - 1),
+        }
+    }
+}
+
+/// Has this process killed, and waits for that.
+fn die() {
+    let _ = Command::new("kill")
+        .args(["-KILL", &process::id().to_string()])
+        .status();
+    thread::sleep(Duration::from_secs(60));
+}
+
+impl Registers for Dying {
+    fn load(&self, place: usize) -> io::Result<u64> {
+        self.step();
+        self.file.load(place)
+    }
+
+    fn store(&self, place: usize, value: u64) -> io::Result<()> {
+        self.step();
+        self.file.store(place, value)
+    }
+
+    fn lock(&self, number: u32, waits: bool) -> io::Result<Option<Lock>> {
+        self.file.lock(number, waits)
+    }
+}
+
+fn note(folder: &Path, word: &str, job: u32) {
+    let path = folder.join("noted");
+    let mut file = OpenOptions::new()
+        .append(true)
+        .create(true)
+        .open(path)
+        .expect("a file");
+    file.write_all(format!("{word} {job}\n").as_bytes())
+        .expect("room on the disk");
+}
+
+fn noted(folder: &Path, word: &str) -> Vec<u32> {
+    let text = fs::read_to_string(folder.join("noted")).unwrap_or_default();
+    let rows = text.lines().filter_map(|line| line.strip_prefix(word));
+    let mut jobs: Vec<u32> = rows.map(|job| job.trim().parse().expect("a job")).collect();
+    jobs.sort_unstable();
+    jobs
+}
+
+fn variable(name: &str) -> Option<String> {
+    env::var(name).ok()
+}
+
+/// The process of a worker. As a test on its own it has no variables, and does nothing.
+#[test]
+fn work() {
+    let folder = match variable(FOLDER) {
+        Some(folder) => PathBuf::from(folder),
+        None => return,
+    };
+    let number = variable(NUMBER)
+        .and_then(|it| it.parse().ok())
+        .expect("a number");
+    let dies_at = variable(DIES_AT)
+        .and_then(|it| it.parse().ok())
+        .expect("a number");
+    let file = MappedFile::open(folder.join("words"), WORKERS, JOBS).expect("a file");
+    let crew = Crew::new(
+        Dying {
+            file,
+            left: Cell::new(dies_at),
+        },
+        WORKERS,
+        JOBS,
+    )
+    .expect("a crew");
+    let mut worker = crew.worker(number).expect("nobody has this number");
+    let perform = |job| note(&folder, "performed ", job);
+    worker
+        .run(perform, |doubt| note(&folder, "doubt ", doubt.job()))
+        .expect("no fault");
+}
+
+/// Has a process work, and returns how it ended.
+fn ended(folder: &Path, number: u32, dies_at: u32) -> ExitStatus {
+    Command::new(env::current_exe().expect("this program"))
+        .args(["--exact", "work", "--quiet"])
+        .env(FOLDER, folder)
+        .env(NUMBER, number.to_string())
+        .env(DIES_AT, dies_at.to_string())
+        .stdout(process::Stdio::null())
+        .status()
+        .expect("a process")
+}
+
+/// Returns true if this status is that of a process that was killed. Fails if it has failed.
+fn was_killed(status: ExitStatus) -> bool {
+    assert!(status.success() || status.signal() == Some(9), "{status:?}");
+    !status.success()
+}
+
+#[test]
+fn a_kill_after_which_a_job_is_performed_twice_or_forgotten() {
+    let folder = env::temp_dir().join(format!("amo-processes.{}", process::id()));
+    let mut kills = 0;
+    loop {
+        fs::create_dir(&folder).expect("a folder");
+        let killed = was_killed(ended(&folder, 1, kills));
+        assert!(!was_killed(ended(&folder, 2, NEVER)));
+        assert!(!was_killed(ended(&folder, 1, NEVER)));
+        check(&folder, kills);
+        fs::remove_dir_all(&folder).expect("the folder");
+        if !killed {
+            break;
+        }
+        kills += 1;
+    }
+    assert!(kills > 10, "{kills}"); // 3 loads at the start, and some 6 accesses for each of 2 jobs
+}
+
+fn check(folder: &Path, kills: u32) {
+    let (performed, doubts) = (noted(folder, "performed "), noted(folder, "doubt "));
+    assert!(
+        performed.windows(2).all(|pair| pair[0] < pair[1]),
+        "access {kills}: {performed:?}"
+    );
+    let file = MappedFile::open(folder.join("words"), WORKERS, JOBS).expect("a file");
+    let crew = Crew::new(file, WORKERS, JOBS).expect("a crew");
+    let standing = crew.standing().expect("no fault");
+    assert!(
+        standing.recorded.len() as u64 >= crew.bound(),
+        "access {kills}: {standing:?}"
+    );
+    for job in 1..=JOBS {
+        let is_recorded = standing.recorded.contains(&job);
+        let is_known = performed.contains(&job) || doubts.contains(&job);
+        assert_eq!(
+            is_recorded, is_known,
+            "access {kills}, job {job}: {standing:?}"
+        );
+    }
+}
+
+#[test]
+fn two_processes_of_one_number() {
+    let folder = env::temp_dir().join(format!("amo-taken.{}", process::id()));
+    fs::create_dir(&folder).expect("a folder");
+    let open = || MappedFile::open(folder.join("words"), WORKERS, JOBS).expect("a file");
+    let (one, two) = (
+        Crew::new(open(), WORKERS, JOBS),
+        Crew::new(open(), WORKERS, JOBS),
+    );
+    let (one, two) = (one.expect("a crew"), two.expect("a crew"));
+    let worker = one.worker(1).expect("nobody has this number");
+    assert!(matches!(two.worker(1), Err(amo::Fault::Taken(1))));
+    assert!(!ended(&folder, 1, NEVER).success()); // nor can another process
+    drop(worker);
+    // another test's child may have the lock too, until it becomes its program
+    assert!(two.worker_when_free(1).is_ok());
+    fs::remove_dir_all(&folder).expect("the folder");
+}
+
+#[test]
+fn a_file_of_an_earlier_boot() {
+    let folder = env::temp_dir().join(format!("amo-boot.{}", process::id()));
+    fs::create_dir(&folder).expect("a folder");
+    let path = folder.join("words");
+    MappedFile::open(&path, 2, 3).expect("a file");
+    MappedFile::open(&path, 2, 3).expect("the same file");
+    fs::write(
+        folder.join("words.boot"),
+        "00000000-0000-0000-0000-000000000000\n",
+    )
+    .expect("room");
+    assert!(matches!(
+        MappedFile::open(&path, 2, 3),
+        Err(amo::Fault::Registers(_))
+    ));
+    fs::remove_dir_all(&folder).expect("the folder");
+}
+
+#[test]
+fn a_file_of_another_run() {
+    let folder = env::temp_dir().join(format!("amo-other.{}", process::id()));
+    fs::create_dir(&folder).expect("a folder");
+    let path = folder.join("words");
+    MappedFile::open(&path, 2, 3).expect("a file");
+    assert!(matches!(
+        MappedFile::open(&path, 2, 4),
+        Err(amo::Fault::Registers(_))
+    ));
+    fs::remove_dir_all(&folder).expect("the folder");
+}

@@ -1,0 +1,154 @@
+//! Workers that die at each of their accesses in turn. Two mistakes must show.
+
+use amo::{Crew, Fault, Registers, Step};
+use std::cell::Cell;
+use std::io;
+use std::sync::atomic::AtomicU64;
+
+const WORKERS: u32 = 2;
+const JOBS: u32 = 3;
+const NEVER: u32 = u32::MAX;
+
+/// Registers of which each access fails once so many were made, before it or after it.
+struct Dying<'a> {
+    words: &'a [AtomicU64],
+    left: Cell<u32>,
+    is_made: bool,
+    forgets: Cell<bool>, // whether loads show 0 until the first store, which is a mistake
+}
+
+impl Dying<'_> {
+    fn is_dead(&self) -> bool {
+        match self.left.get() {
+            0 => true,
+            left => {
+                self.left.set(left - 1);
+                false
+            }
+        }
+    }
+}
+
+fn death() -> io::Error {
+    io::ErrorKind::BrokenPipe.into()
+}
+
+impl Registers for Dying<'_> {
+    fn load(&self, place: usize) -> io::Result<u64> {
+        if self.is_dead() {
+            return Err(death());
+        }
+        let value = self.words.load(place)?;
+        Ok(if self.forgets.get() { 0 } else { value })
+    }
+
+    fn store(&self, place: usize, value: u64) -> io::Result<()> {
+        let is_dead = self.is_dead();
+        if !is_dead || self.is_made {
+            self.forgets.set(false);
+            self.words.store(place, value)?;
+        }
+        if is_dead {
+            return Err(death());
+        }
+        Ok(())
+    }
+}
+
+#[derive(Clone, Copy, PartialEq)]
+enum Mistake {
+    None,
+    PerformsDoubts,
+    ForgetsRegisters,
+}
+
+/// One life of a worker, which ends it at an access. Returns true if it has ended on its own.
+fn live(
+    words: &[AtomicU64],
+    number: u32,
+    dies_at: (u32, bool),
+    mistake: Mistake,
+    performed: &mut Vec<u32>,
+) -> bool {
+    let registers = Dying {
+        words,
+        left: Cell::new(dies_at.0),
+        is_made: dies_at.1,
+        forgets: Cell::new(mistake == Mistake::ForgetsRegisters),
+    };
+    let crew = Crew::new(registers, WORKERS, JOBS).expect("the numbers keep the limits");
+    let mut worker = crew.worker(number).expect("nobody has this number");
+    loop {
+        match worker.step() {
+            Ok(Step::Perform(job)) => {
+                performed.push(job.number());
+                if job.done().is_err() {
+                    return false;
+                }
+            }
+            Ok(Step::Doubt(doubt)) if mistake == Mistake::PerformsDoubts => {
+                performed.push(doubt.job());
+            }
+            Ok(Step::Doubt(_)) => (),
+            Ok(Step::Over) => return true,
+            Err(Fault::Registers(_)) => return false,
+            Err(fault) => panic!("{fault}"),
+        }
+    }
+}
+
+/// Has worker 1 die at an access, and come back once the other has ended. Returns the performed
+/// jobs, and true if worker 1 didn't die.
+fn run(first: (u32, bool), second: (u32, bool), mistake: Mistake) -> (Vec<u32>, bool) {
+    let count = amo::words(WORKERS, JOBS).expect("the numbers keep the limits");
+    let words: Vec<AtomicU64> = (0..count).map(|_| AtomicU64::new(0)).collect();
+    let mut performed = Vec::new();
+    let has_ended = live(&words, 1, first, mistake, &mut performed);
+    live(&words, 2, (NEVER, false), Mistake::None, &mut performed);
+    live(&words, 1, second, mistake, &mut performed);
+    live(&words, 1, (NEVER, false), mistake, &mut performed);
+    performed.sort_unstable();
+    (performed, has_ended)
+}
+
+fn has_twice(jobs: &[u32]) -> bool {
+    jobs.windows(2).any(|pair| pair[0] == pair[1])
+}
+
+/// Returns how many of all pairs of deaths have a job that was performed twice, and how many pairs
+/// there are.
+fn all_runs(mistake: Mistake) -> (u32, u32) {
+    let (mut twice, mut runs) = (0, 0);
+    for is_made in [false, true] {
+        for first in 0.. {
+            let mut has_ended = false;
+            for second in 0..20 {
+                let (performed, ended) = run((first, is_made), (second, is_made), mistake);
+                twice += u32::from(has_twice(&performed));
+                runs += 1;
+                has_ended = ended;
+            }
+            if has_ended {
+                break;
+            }
+        }
+    }
+    (twice, runs)
+}
+
+#[test]
+fn a_death_after_which_a_job_is_performed_twice() {
+    let (twice, runs) = all_runs(Mistake::None);
+    assert_eq!(twice, 0);
+    assert!(runs > 400, "{runs}"); // each of some 15 accesses, twice, with 20 second deaths
+}
+
+#[test]
+fn performed_doubts_that_do_not_show() {
+    assert!(all_runs(Mistake::PerformsDoubts).0 > 0);
+}
+
+#[test]
+fn forgotten_registers_that_do_not_show() {
+    assert!(all_runs(Mistake::ForgetsRegisters).0 > 0);
+}

@@ -1,0 +1,135 @@
+"""How a release is packed and tried: the modules of tools/releases."""
+
+import os
+import subprocess
+import sys
+import tempfile
+import unittest
+from unittest import mock
+
+import package
+
+sys.path[:0] = [f"{package.ROOT}/tools/releases", f"{package.ROOT}/tools/modules"]
+
+import follow
+import forms
+import roots
+import tree
+
+PAGE = """# A page
+
+```console installed
+$ echo one; echo two
+one
+two
+```
+
+```console run
+$ false
+```
+
+```console installed
+$ date
+.., at ..
+```
+"""
+
+
+class Room(unittest.TestCase):
+    def setUp(self):
+        room = tempfile.TemporaryDirectory()
+        self.addCleanup(room.cleanup)
+        self.room = room.name
+
+    def put(self, name, text, mode=0o644, time=1):
+        path = f"{self.room}/{name}"
+        os.makedirs(os.path.dirname(path), exist_ok=True)
+        with open(path, "w", encoding="utf-8") as file:
+            file.write(text)
+        os.chmod(path, mode)
+        os.utime(path, (time, time))
+        return path
+
+    def read(self, name):
+        with open(f"{self.room}/{name}", "rb") as file:
+            return file.read()
+
+
+class Followed(Room):
+    def test_only_the_blocks_of_an_installed_program_are_followed(self):
+        self.assertEqual(follow.steps_of(PAGE), [("echo one; echo two", ["one", "two"]),
+                                                 ("date", [".., at .."])])
+
+    def test_two_dots_stand_for_any_text_and_nothing_else_does(self):
+        self.assertTrue(follow.fits([".., line 2: a.b"], "1.2, line 2: a.b\n"))
+        self.assertFalse(follow.fits([".., line 2: a.b"], "1.2, line 2: axb\n"))
+        self.assertFalse(follow.fits(["one"], "one\ntwo\n"))
+        self.assertFalse(follow.fits(["one", "two"], "one\n"))
+
+    def test_another_output_fails_and_so_does_a_page_without_steps(self):
+        good = self.put("good.md", "```console installed\n$ echo one\none\n```\n")
+        other = self.put("other.md", "```console installed\n$ echo two\none\n```\n")
+        none = self.put("none.md", "no steps\n")
+        with mock.patch("builtins.print"):
+            self.assertEqual([follow.main(it) for it in (good, other, none)], [0, 1, 1])
+
+
+class Packed(Room):
+    """The same files, written at other times and by another umask."""
+
+    def two(self):
+        for which, time, mode in (("one", 1000, 0o600), ("two", 2000, 0o644)):
+            self.put(f"{which}/amo-1/b", "b\n", mode, time)
+            self.put(f"{which}/amo-1/a/run", "#!/bin/sh\n", mode | 0o100, time)
+            tree.settle(f"{self.room}/{which}/amo-1")
+            tree.write_sums(f"{self.room}/{which}/amo-1")
+
+    def test_an_archive_has_the_same_bytes(self):
+        self.two()
+        for which in ("one", "two"):
+            forms.make_archive(f"{self.room}/{which}/amo-1", f"{self.room}/{which}.tar.gz", 3000)
+            subprocess.run(["tar", "-czf", f"{self.room}/{which}.plain", "-C",
+                            f"{self.room}/{which}", "amo-1"], check=True)
+        self.assertEqual(self.read("one.tar.gz"), self.read("two.tar.gz"))
+        self.assertNotEqual(self.read("one.plain"), self.read("two.plain"))
+
+    def test_a_package_has_the_same_bytes(self):
+        for which, time in (("one", 1000), ("two", 2000)):
+            self.put(f"{which}/usr/share/b", "b\n", time=time)
+            self.put(f"{which}/DEBIAN/control", "Package: b\nVersion: 1\nArchitecture: all\n"
+                     "Maintainer: A <a@b.example>\nDescription: b\n", time=time)
+            os.chmod(f"{self.room}/{which}/DEBIAN", 0o755)
+            forms.build_package(f"{self.room}/{which}", f"{self.room}/{which}.deb", 3000)
+        self.assertEqual(self.read("one.deb"), self.read("two.deb"))
+
+    def test_the_sums_name_each_file_but_themselves(self):
+        self.two()
+        ran = subprocess.run(["sha256sum", "--check", "--strict", "SHA256SUMS"],
+                             cwd=f"{self.room}/one/amo-1", stdout=subprocess.PIPE, text=True)
+        self.assertEqual(ran.stdout, "a/run: OK\nb: OK\n")
+
+    def test_a_development_version_comes_before_the_release(self):
+        older = forms.debian_version("0.2.0-dev")
+        newer = forms.debian_version("0.2.0")
+        self.assertEqual(subprocess.run(["dpkg", "--compare-versions", older, "lt", newer],
+                                        ).returncode, 0)
+
+    def test_a_missing_file_is_named(self):
+        with self.assertRaisesRegex(FileNotFoundError, "it is missing; build it"):
+            tree.gather(f"{self.room}/none", "kit", f"{self.room}/into")
+
+
+class Kept(Room):
+    def test_a_root_made_by_another_list_does_not_count(self):
+        self.put("lists/apt", "python3\nsystemd\n")
+        os.makedirs(f"{self.room}/kept/apt")
+        with mock.patch.multiple(roots, LISTS=f"{self.room}/lists", KEPT=f"{self.room}/kept"):
+            self.assertFalse(roots.is_kept("apt"))
+            self.put("kept/apt.list", "python3\nsystemd\n")
+            self.assertTrue(roots.is_kept("apt"))
+            self.put("kept/apt.list", "python3\n")
+            self.assertFalse(roots.is_kept("apt"))
+
+
+if __name__ == "__main__":
+    unittest.main()

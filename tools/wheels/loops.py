@@ -1,0 +1,277 @@
+#!/usr/bin/env python3
+"""Tests loops over a worker of the installed module: how they end, and who may begin one.
+
+  loops.py [NAME..]
+"""
+
+from __future__ import annotations
+
+import multiprocessing
+import os
+import random
+import subprocess
+import sys
+import tempfile
+import threading
+import time
+import unittest
+from multiprocessing.shared_memory import SharedMemory
+from typing import Callable, List
+
+sys.dont_write_bytecode = True
+
+import amo
+
+
+class Failing:
+    """Registers in a list, of which an access can fail once."""
+
+    def __init__(self, workers: int, jobs: int):
+        self.words = [0] * (amo.size(workers, jobs) // 8)
+        self.fails: Callable[[str, int], bool] = lambda kind, place: False
+
+    def load(self, place: int) -> int:
+        if self.fails("load", place):
+            raise OSError("the load fails")
+        return self.words[place]
+
+    def store(self, place: int, value: int) -> None:
+        if self.fails("store", place):
+            raise OSError("the store fails")
+        self.words[place] = value
+
+
+def note(path: str, word: str, job: int) -> None:
+    """Adds a line to a file that processes share."""
+    file = os.open(path, os.O_WRONLY | os.O_CREAT | os.O_APPEND, 0o600)
+    os.write(file, f"{word} {job}\n".encode())
+    os.close(file)
+
+
+def work_in_shared_memory(name: str, path: str, number: int) -> None:
+    """Works as a worker of 3 over 60 jobs. It is a process of `multiprocessing`."""
+    registers = amo.Shared(SharedMemory(name), 3, 60)
+    worker = amo.Worker(registers, number, 3, 60, wait=True)
+    for job in worker.doubts:
+        note(path, "doubt", job)
+    for job in worker:
+        note(path, "performed", job)
+        time.sleep(0.01)  # so that many kills come in the middle of a loop
+
+
+def alone(registers: amo.Registers, jobs: int = 3) -> amo.Worker:
+    return amo.Worker(registers, number=1, workers=1, jobs=jobs)
+
+
+class Loops(unittest.TestCase):
+    def test_an_exception_that_leaves_no_doubt(self) -> None:
+        worker = alone(amo.Memory(1, 3))
+        with self.assertRaises(KeyError):
+            for job in worker:
+                raise KeyError(job)
+        self.assertEqual(worker.doubts, [1])
+        self.assertEqual(list(worker), [2, 3])
+        self.assertEqual(worker.doubts, [1])
+
+    def test_an_earlier_loop_that_goes_on(self) -> None:
+        worker = alone(amo.Memory(1, 3))
+        first = iter(worker)
+        self.assertEqual(next(first), 1)
+        self.assertEqual(list(worker), [2, 3])
+        with self.assertRaisesRegex(RuntimeError, "another loop"):
+            next(first)
+        self.assertEqual(worker.doubts, [1])
+
+    def test_a_closed_worker_that_goes_on(self) -> None:
+        worker = alone(amo.Memory(1, 3))
+        loop = iter(worker)
+        self.assertEqual(next(loop), 1)
+        worker.close()
+        with self.assertRaisesRegex(RuntimeError, "closed"):
+            next(loop)
+        with self.assertRaisesRegex(RuntimeError, "closed"):
+            iter(worker)
+        self.assertEqual(worker.doubts, [1])
+
+    def test_a_child_process_that_goes_on(self) -> None:
+        worker, memory = alone(amo.Memory(1, 3)), amo.Memory(2, 3)
+        loop = iter(worker)
+        next(loop)
+        child = os.fork()
+        if child == 0:
+            refused = 0
+            calls: List[Callable[[], object]] = [lambda: next(loop), lambda: iter(worker),
+                                                 lambda: alone(amo.Memory(1, 3)),
+                                                 lambda: amo.Worker(memory, 2, 2, 3)]
+            for call in calls:
+                try:
+                    call()
+                except RuntimeError:
+                    refused += 1
+            os._exit(refused)
+        self.assertEqual(os.waitstatus_to_exitcode(os.waitpid(child, 0)[1]), 3)
+        self.assertEqual(list(loop), [2, 3])
+
+    def test_a_failed_access_after_which_a_job_comes_again(self) -> None:
+        for kind, place in (("store", 3), ("store", 2), ("store", 1), ("load", 1), ("load", 3)):
+            registers = Failing(1, 3)
+            failed: List[int] = []
+
+            def fails(found: str, at: int, kind: str = kind, place: int = place) -> bool:
+                if (found, at) == (kind, place) and not failed:
+                    failed.append(at)
+                    return True
+                return False
+
+            performed: List[int] = []
+            registers.fails = fails
+            try:
+                performed += alone(registers)
+            except OSError:
+                pass
+            worker = alone(registers)
+            self.assertEqual(failed, [place])
+            performed += [job for job in worker if job not in worker.doubts]
+            self.assertEqual(len(set(performed)), len(performed), (kind, place))
+
+    def test_a_value_that_no_worker_stores(self) -> None:
+        for value in (77, -1, 1 << 64):
+            registers = Failing(1, 3)
+            registers.words[2] = value
+            with self.assertRaises(amo.Damaged):
+                alone(registers)
+
+    def test_a_number_beyond_its_limit(self) -> None:
+        # the number, the workers, the jobs and the threshold
+        wrong = [(0, 1, 1, 1), (2, 1, 1, 1), (-1, 1, 1, 1), (1, 0, 1, 1), (1, 17, 1, 17),
+                 (1, 1, 4097, 1), (1, 1, -1, 1), (1, 1, 1 << 64, 1), (1, 2, 1, 1),
+                 (1, 1, 1, 65536)]
+        for number, workers, jobs, beta in wrong:
+            with self.assertRaises(ValueError, msg=f"{number} {workers} {jobs} {beta}"):
+                amo.Worker(amo.Memory(1, 1), number, workers, jobs, beta=beta)
+
+    def test_threads_that_perform_a_job_twice(self) -> None:
+        registers, performed = amo.Memory(4, 200), []  # type: amo.Memory, List[int]
+        threads = [threading.Thread(
+            target=lambda number=number: performed.extend(amo.Worker(registers, number, 4, 200)))
+            for number in range(1, 5)]
+        for it in threads:
+            it.start()
+        for it in threads:
+            it.join()
+        self.assertEqual(sorted(performed), amo.standing(registers, 4, 200).recorded)
+        self.assertEqual(len(set(performed)), len(performed))
+        self.assertGreaterEqual(len(performed), amo.bound(4, 200))
+
+
+class Processes(unittest.TestCase):
+    """Processes of `multiprocessing` that are killed at random, and begun again."""
+
+    def setUp(self) -> None:
+        folder = tempfile.TemporaryDirectory()
+        self.addCleanup(folder.cleanup)
+        self.path = f"{folder.name}/noted"
+        self.memory = SharedMemory(create=True, size=amo.size(3, 60))
+        self.addCleanup(self.memory.unlink)
+        self.addCleanup(self.memory.close)
+
+    def live(self, number: int, lives: int) -> None:
+        """Has processes work as this worker, of which all but the last are killed."""
+        for _ in range(lives):
+            process = multiprocessing.get_context("spawn").Process(
+                target=work_in_shared_memory, args=(self.memory.name, self.path, number))
+            process.start()
+            process.join(random.random())
+            process.kill()
+            process.join()
+        work_in_shared_memory(self.memory.name, self.path, number)
+
+    def noted(self, word: str) -> List[int]:
+        with open(self.path, encoding="ascii") as file:
+            return [int(it.split()[1]) for it in file if it.split()[0] == word]
+
+    def test_a_kill_after_which_a_job_is_performed_twice(self) -> None:
+        threads = [threading.Thread(target=self.live, args=(number, 4)) for number in (1, 2, 3)]
+        for it in threads:
+            it.start()
+        for it in threads:
+            it.join()
+        registers = amo.Shared(self.memory, 3, 60)
+        standing = amo.standing(registers, 3, 60)
+        registers.close()
+        performed, known = self.noted("performed"), {*self.noted("performed")}
+        known |= {*self.noted("doubt")}
+        self.assertEqual(len(set(performed)), len(performed), performed)
+        self.assertEqual((set(standing.recorded), standing.in_hand), (known, []))
+        self.assertGreaterEqual(len(standing.recorded), amo.bound(3, 60))
+
+
+class Numbers(unittest.TestCase):
+    def setUp(self) -> None:
+        folder = tempfile.TemporaryDirectory()
+        self.addCleanup(folder.cleanup)
+        self.path = f"{folder.name}/words"
+
+    def test_a_number_that_two_workers_have(self) -> None:
+        first = alone(amo.File(self.path, 1, 3))
+        with self.assertRaises(amo.Taken):
+            alone(amo.File(self.path, 1, 3))
+        first.close()
+        alone(amo.File(self.path, 1, 3)).close()
+        memory = amo.Memory(1, 3)
+        second = alone(memory)
+        with self.assertRaises(amo.Taken):
+            alone(memory)
+        del second
+        alone(memory).close()
+
+    def test_a_worker_that_does_not_wait(self) -> None:
+        first = alone(amo.File(self.path, 1, 3))
+        began: List[float] = []
+
+        def begin() -> None:
+            with amo.Worker(amo.File(self.path, 1, 3), 1, 1, 3, wait=True):
+                began.append(time.monotonic())
+
+        waiting = threading.Thread(target=begin)
+        waiting.start()
+        time.sleep(0.2)
+        self.assertEqual(began, [])
+        first.close()
+        waiting.join()
+        self.assertEqual(len(began), 1)
+
+    def test_a_command_that_does_not_hold_the_number(self) -> None:
+        worker = alone(amo.File(self.path, 1, 3))
+        with subprocess.Popen(["cat"], stdin=subprocess.PIPE,
+                              pass_fds=[worker.fileno()]) as command:
+            worker.close()
+            with self.assertRaises(amo.Taken):
+                alone(amo.File(self.path, 1, 3))
+            command.communicate()
+        alone(amo.File(self.path, 1, 3)).close()
+
+    def test_a_file_of_another_run(self) -> None:
+        amo.File(self.path, 1, 3)
+        with self.assertRaises(ValueError):
+            amo.File(self.path, 1, 4)
+
+    def test_a_file_of_an_earlier_boot(self) -> None:
+        amo.File(self.path, 1, 3)
+        amo.File(self.path, 1, 3)
+        with open(f"{self.path}.boot", "w", encoding="ascii") as file:
+            file.write("00000000-0000-0000-0000-000000000000\n")
+        with self.assertRaisesRegex(ValueError, "earlier boot"):
+            amo.File(self.path, 1, 3)
+
+    def test_a_place_beyond_the_registers(self) -> None:
+        registers = amo.File(self.path, 1, 3)
+        for place in (-1, amo.size(1, 3) // 8):
+            with self.assertRaises(IndexError):
+                registers.load(place)
+            with self.assertRaises(IndexError):
+                registers.store(place, 1)
+
+
+if __name__ == "__main__":
+    unittest.main()
