@@ -33,8 +33,8 @@ impl Dying {
 
 /// Has this process killed, and waits for that.
 fn die() {
-    let _ = Command::new("kill")
-        .args(["-KILL", &process::id().to_string()])
+    let _ = Command::new("sh")
+        .args(["-c", "kill -KILL \"$0\"", &process::id().to_string()])
         .status();
     thread::sleep(Duration::from_secs(60));
 }
