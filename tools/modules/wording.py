@@ -127,8 +127,8 @@ class Vocabulary:
 
     def needed(self, crate: str) -> list[str]:
         """Returns the crates that a caller lists: this one, those of the repository whose types or
-        words its public items or the programs in its comments name, and those of the toolchain whose
-        words the items name."""
+        words its public items or the programs in its comments name, and those of the toolchain
+        whose words the items name."""
         texts = self.contracts(crate)
         used = {it for it in USED.findall(self.programs[crate]) if self.tree.has_crate(it)}
         own = {it.source.crate() for it in [*self.named(texts), *self.imported(crate)]}
@@ -151,12 +151,13 @@ class Vocabulary:
         return found
 
     def twins(self, crate: str) -> list[str]:
-        """Returns a row for each other crate that exports items of this one, or has some that this
-        one exports."""
+        """Returns a row for each two crates that export the same items, if one is this crate or a
+        caller of this crate lists both."""
         shared: dict[tuple[str, str], list[str]] = {}
+        needed = set(self.needed(crate))
         for other in self.items:
             for name, home in self.exports(other).items():
-                if crate in (other, home):
+                if crate in (other, home) or {other, home} <= needed:
                     shared.setdefault((other, home), []).append(name)
         return [f"- {', '.join(f'`{it}`' for it in names)}: of {self.page_link(home)}, and exported"
                 f" by {self.page_link(other)}" for (other, home), names in shared.items()]
@@ -168,8 +169,8 @@ class Vocabulary:
         return f"{crate}.md"
 
     def link(self, it: Definition) -> str:
-        """Returns the target of a link to a definition: its section, or its file if its crate has no
-        page."""
+        """Returns the target of a link to a definition: its section, or its file if its crate has
+        no page."""
         crate = it.source.crate()
         if crate not in self.items:
             return f"../../{it.source.path}"
@@ -194,7 +195,7 @@ class Vocabulary:
         files: dict[str, list[Definition]] = {}
         for it in sorted(self.shown[crate], key=lambda it: (it.source.path, it.first)):
             files.setdefault(it.source.path, []).append(it)
-        return [part for path, those in files.items() for part in self.file_part(crate, path, those)]
+        return [part for path in files for part in self.file_part(crate, path, files[path])]
 
     def file_part(self, crate: str, path: str, those: list[Definition]) -> list[str]:
         language = "rust" if path.endswith(".rt") else "antt"
