@@ -182,7 +182,10 @@ class Vocabulary:
         """Returns the names of other crates that these definitions name, each with a link."""
         found = sorted({(it.name, it.source.crate(), self.link(it)) for it in self.named(those)
                         if it.source.crate() != crate})
-        return ", ".join(f"[`{name}`]({target}) of `{home}`" for name, home, target in found)
+        twins = self.exports(crate)
+        return ", ".join(f"[`{name}`]({target}) of `{home}`"
+                         + " (exported here too)" * (twins.get(name) == home)
+                         for name, home, target in found)
 
     def value(self, view: Definition) -> Definition | None:
         """Returns the definition of the value as which contracts see a type."""
