@@ -59,7 +59,7 @@ deeper n = n
 abbrev pub alone : ℕ → ℕ
 alone n = n
 
--- What is seen of it.
+-- The box as contracts see it.
 pub record BoxView : Type 0 where
   pub amount : ℕ
 """
