@@ -13,8 +13,6 @@ ITEM = re.compile(r"(\s*)(?:pub(?:\([^)]*\))? )?(?:ghost )?(?:const )?(?:unsafe 
                   r"(?:extern \"C\" )?(fn|struct|enum|trait|type|const|impl) ?(.*)")
 NAME = re.compile(r"\w+")
 MODEL = re.compile(r"impl(?:<.*>)? Model for (\w+)")
-VALUE = re.compile(r" {4}ghost Value = \{ (.*) \};")
-DEFINITION = re.compile(r"(?:abbrev pub|pub record|pub data|pub abbrev|pub) (\S+) ?(?::|\{|\()")
 WITH_MEMBERS = ("struct", "enum", "trait")
 MEMBER = re.compile(r"pub (?:ghost )?\w+:|[A-Z]\w*(?:\(|,$|$| \{)|type |ghost \w+:")
 FENCE = "```"
@@ -91,6 +89,14 @@ def comment_above(lines: list[str], at: int) -> list[str]:
         found.insert(0, comment[1])
         at -= 1
     return found
+
+
+def attributes_above(lines: list[str], at: int) -> list[str]:
+    """Returns the `derive` attributes directly above the line at this index."""
+    first = at
+    while first > 0 and lines[first - 1].strip().startswith("#["):
+        first -= 1
+    return [line.strip() for line in lines[first:at] if line.strip().startswith("#[derive(")]
 
 
 def head_of(lines: list[str]) -> list[str]:
@@ -183,32 +189,20 @@ def public_items(folder: str, root: str) -> list[Item]:
     return found
 
 
-def models(folder: str) -> dict[str, str]:
-    """Returns for the types of a crate that have one the value as which contracts see them."""
-    found: dict[str, str] = {}
+def models(folder: str, root: str) -> dict[str, Item]:
+    """Returns for each type of a crate that has one its `impl Model`: its lines say the value as
+    which contracts see the type, and what always holds of it."""
+    found: dict[str, Item] = {}
     for path in files_of(folder):
-        name = ""
-        for line in read(path):
-            begun = MODEL.match(line)
-            name = begun[1] if begun else name
-            value = VALUE.match(line)
-            if value and name:
-                found[name], name = value[1], ""
+        lines = read(path)
+        for at, begun in ((at, MODEL.match(line)) for at, line in enumerate(lines)):
+            if begun:
+                last = lines.index("}", at)
+                body = [line.removeprefix("    ") for line in lines[at + 1:last]
+                        if line.strip() and not comment_of(line) and "ghost use" not in line]
+                found[begun[1]] = Item(os.path.relpath(path, root), at + 1, last + 1, "impl",
+                                       begun[1], "", True, [], body, [])
     return found
-
-
-def definitions(folder: str) -> Iterator[tuple[str, str, str]]:
-    """Yields each definition of a crate with its file and its line of plain words."""
-    for name in sorted(os.listdir(f"{folder}/specs") if os.path.isdir(f"{folder}/specs") else ()):
-        words: list[str] = []
-        for line in read(f"{folder}/specs/{name}"):
-            if line.startswith("-- "):
-                words.append(line[3:])
-                continue
-            found = DEFINITION.match(line)
-            if found:
-                yield name, found[1], " ".join(words)
-            words = []
 
 
 def blocks_of(path: str, root: str) -> Iterator[Block]:

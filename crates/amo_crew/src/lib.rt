@@ -10,6 +10,69 @@
 //! |---|---|
 //! | p | a worker |
 //! | j | a job |
+//!
+//! # A proved caller
+//!
+//! The contract of `double_all` states that no job has two answers, and that each job has a place.
+//! To use a theorem, call it before `execute`: the prover then has its clauses for the outcome. If
+//! you leave out the call of `each_job_is_answered_once`, the prover rejects the clause `once`.
+//! The prover accepted this file without a file of proofs (`rattle check`, 2026-11-30). Its crate
+//! stands on `amo_crew`, `amo_mailbox`, `amo_claims`, `amo_words`, `amo_givens` and `amo_sets`.
+//!
+//! ```rust
+//! #![tactic(auto)]
+//! //! Doubles numbers in threads, each at most once.
+//!
+//! ghost use Rattle.std.specs.Prelude.{◌≡◌, ℕ, IfOk};
+//! ghost use Rattle.amo_sets.specs.Sets.{AreDistinct};
+//! ghost use Rattle.amo_givens.specs.Givens.{IsJob};
+//! ghost use Rattle.amo_crew.specs.Outcomes.{HasAPlace, answered};
+//!
+//! use amo_crew::laws::{each_job_has_a_place, each_job_is_answered_once};
+//! use amo_crew::{ExecFault, Outcome, StopPlan, Work, execute};
+//! use amo_givens::Givens;
+//! use std::alloc::Global;
+//! use std::sync::Wait;
+//! use std::thread::Threads;
+//!
+//! /// The work: a number is doubled.
+//! #[derive(Clone, Copy)]
+//! pub struct Doubling;
+//!
+//! impl Work<u32> for Doubling {
+//!     ghost use Rattle.std.specs.Prelude.{◌≡◌, ◌*◌};
+//!
+//!     type Out = u64;
+//!
+//!     ghost related = { λ _ _ _ number out. out ≡ 2 * number };
+//!
+//!     fn perform(&self, _worker: u32, _job: u32, number: u32) -> u64 {
+//!         2 * u64::from(number)
+//!     }
+//! }
+//!
+//! /// Doubles the numbers in threads. In the outcome no job has two answers, and each job is
+//! /// answered, in a hand, or free.
+//! pub fn double_all<R: Threads + Wait + Sync>(
+//!     rt: &R,
+//!     alloc: Global,
+//!     givens: Givens,
+//!     numbers: Vec<u32>,
+//!     plan: &StopPlan,
+//! ) -> Result<Outcome<u32, u64>, ExecFault<u32, u64>>
+//!     requires { plan.now.givens ≡ givens }
+//!     ensures once { IfOk result (λ o. AreDistinct (answered o)) }
+//!     ensures placed { IfOk result (λ o. (j : ℕ) → IsJob givens j → HasAPlace o j) }
+//! {
+//!     let work = Doubling;
+//!     each_job_is_answered_once::<u32, Doubling>(&work);
+//!     each_job_has_a_place::<u32, Doubling>(&work);
+//!     match execute(rt, alloc, givens, numbers, &work, plan) {
+//!         Ok(outcome) => Ok(outcome),
+//!         Err(fault) => Err(fault),
+//!     }
+//! }
+//! ```
 #![tactic(auto)]
 
 mod executing;

@@ -9,7 +9,8 @@ use crate::states::{After, Go, Gone, Held, Ready};
 use amo_words::{Floor, Step, Worker};
 
 /// Returns the state of a worker that has nothing in its hand: `More`, unless it has ended or left.
-/// The worker stays as it is.
+/// The worker stays as it is. A worker that `Book::hire` of `amo_words` has just returned meets
+/// `empty`.
 pub fn begin<P>(worker: Worker<P>) -> After<P>
     requires empty { jobs_in_hand (machine worker).state.phase ≡ [] }
     ensures state { result ≡ state_of worker }
