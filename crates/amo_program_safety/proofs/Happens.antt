@@ -42,7 +42,7 @@ dropped_of zero xs x one = one
 dropped_of (suc k) [] x one = one
 dropped_of (suc k) (y ∷ xs) x one = inr (dropped_of k xs x one)
 
-without_of : {A : Type 0} (i : ℕ) (xs : List A) (x : A) → IsOneOf (take i xs ++ drop (i + 1) xs) x → IsOneOf xs x
+pub without_of : {A : Type 0} (i : ℕ) (xs : List A) (x : A) → IsOneOf (take i xs ++ drop (i + 1) xs) x → IsOneOf xs x
 without_of i xs x one = ⊎_elim (taken_of i xs x) (dropped_of (i + 1) xs x) (of_both (take i xs) (drop (i + 1) xs) x one)
 
 front_empty : (xs ys : List ℕ) → xs ++ ys ≡ [] → xs ≡ []

@@ -39,6 +39,7 @@ mod StoppingCalls
 mod StoppingSteps
 mod Final
 mod Holding
+mod Lists
 mod Forever
 mod Noting
 mod Recording

@@ -28,7 +28,7 @@ use Rattle.amo_program_safety.proofs.Standing.{IsOpened, Knows, Owns, Gave, Work
 use Rattle.amo_program_safety.proofs.Steps.{knows_more}
 use Rattle.amo_program_safety.proofs.Said.{same_serial, same_line}
 
-say_is : (a b : List ℕ) → Say a ≡ Say b → a ≡ b
+pub say_is : (a b : List ℕ) → Say a ≡ Say b → a ≡ b
 say_is a b e = cc
 
 some_is : {A : Type 0} {a b : A} → Some a ≡ Some b → a ≡ b
@@ -36,7 +36,7 @@ some_is e = cc
 
 -- ---- phases in which a process hands no attempt over
 
-starts_quietly : (worker : ℕ) (start : Start) (x : List ℕ) → MayStart worker start (Say x) → ⊥
+pub starts_quietly : (worker : ℕ) (start : Start) (x : List ℕ) → MayStart worker start (Say x) → ⊥
 starts_quietly worker Unborn x e = cc
 starts_quietly worker Guards x e = cc
 starts_quietly worker Checked x e = cc
@@ -44,10 +44,10 @@ starts_quietly worker (KnowsRound last) x e = cc
 starts_quietly worker (HasRecovered last texts) x e = cc
 starts_quietly worker (Settled last texts) x e = cc
 
-tries_quietly : (x : List ℕ) → MayTryRound (Say x) → ⊥
+pub tries_quietly : (x : List ℕ) → MayTryRound (Say x) → ⊥
 tries_quietly x h = let e = h.1 in cc
 
-begins_quietly : (me : Identity) (begin : Begin) (x : List ℕ) → MayDo me begin (Say x) → ⊥
+pub begins_quietly : (me : Identity) (begin : Begin) (x : List ℕ) → MayDo me begin (Say x) → ⊥
 begins_quietly me (LockedAlone prior) x e = cc
 begins_quietly me (BootedAlone prior boot) x e = cc
 begins_quietly me (HasLast prior boot last) x e = cc
@@ -57,22 +57,22 @@ begins_quietly me (KnowsAll boot last logs counts) x h = ⊎_elim (λ made. let 
 begins_quietly me (RoundMade file logs) x h = let e = h.2 in cc
 begins_quietly me (RegistersMade logs) x e = cc
 
-joins_quietly : (join : Join) (x : List ℕ) → MayJoin join (Say x) → ⊥
+pub joins_quietly : (join : Join) (x : List ℕ) → MayJoin join (Say x) → ⊥
 joins_quietly (Locked prior) x e = cc
 joins_quietly (Booted prior boot) x e = cc
 joins_quietly (HasHeader prior file) x h = ⊎_elim (λ e. cc e) (λ e. cc e) h
 joins_quietly (HasJobs prior file) x h = let e = h.1 in cc
 joins_quietly (Seated prior file givens seat) x e = cc
 
-reads_quietly : (purpose : Purpose) (left : List LogFile) (x : List ℕ) → MayRead purpose left (Say x) → ⊥
+pub reads_quietly : (purpose : Purpose) (left : List LogFile) (x : List ℕ) → MayRead purpose left (Say x) → ⊥
 reads_quietly purpose [] x h = h
 reads_quietly purpose (f ∷ left) x h = let e = h.1 in cc
 
-clears_quietly : (s : ℕ) (left : List LogFile) (x : List ℕ) → MayClear s left (Say x) → ⊥
+pub clears_quietly : (s : ℕ) (left : List LogFile) (x : List ℕ) → MayClear s left (Say x) → ⊥
 clears_quietly s [] x h = h
 clears_quietly s (f ∷ left) x h = ⊎_elim (λ e. cc e) (λ e. cc e) h
 
-asks_otherwise : (me : Identity) (t : Try) (s line : ℕ) (text : List ℕ) → CarriesOutBefore me t (Say (perform_text s line text)) → ⊥
+pub asks_otherwise : (me : Identity) (t : Try) (s line : ℕ) (text : List ℕ) → CarriesOutBefore me t (Say (perform_text s line text)) → ⊥
 asks_otherwise me (Note n c) s line text h = let e = h.1 in absurd (cc e)
 asks_otherwise me (Ask n l) s line text h = words_differ s line n l text h.0 (say_is _ _ h.2)
 asks_otherwise me _ s line text h = h

@@ -5,7 +5,7 @@ use Rattle.std.specs.Fmt.{decimal, digit_glyph, digits_onto, digits}
 use Rattle.std.proofs.lemmas.Bool.{cases_lt}
 use Rattle.std.proofs.lemmas.Fmt.{decimal_is_IsNumeral_wide, length-decimal-le_wide}
 use Rattle.std.specs.Str.Parse.{digits_value}
-use Rattle.std.proofs.lemmas.List.{append_cancel_left}
+use Rattle.std.proofs.lemmas.List.{append_cancel_left, append_cancel_right}
 use Rattle.amo_run_log.specs.Numbers.{first_word, other_words}
 use Rattle.amo_run_log.proofs.Words.{Lacks, AreWords, words}
 use Rattle.amo_protocol.specs.Sayings.{perform_text}
@@ -83,3 +83,19 @@ same_serial k m s l t u fits e =
 -- Two equal texts that ask for a performance have the same line.
 pub same_line : (k m s l : ℕ) (t u : List ℕ) → s < 2 ^ 64 → l < 2 ^ 64 → perform_text k m t ≡ perform_text s l u → m ≡ l
 same_line k m s l t u fits small e = (front_is m l (t ++ 10 ∷ []) (u ++ 10 ∷ []) small (same_serial k m s l t u fits e).1).0
+
+after_blank : (k s : ℕ) (r q : List ℕ) → decimal k ++ 32 ∷ r ≡ decimal s ++ 32 ∷ q → r ≡ q
+after_blank k s r q e =
+    let one : AreWords (decimal k ++ 32 ∷ r) (decimal k) r = words (decimal k) r (lacks_blank k) in
+    let other : AreWords (decimal s ++ 32 ∷ q) (decimal s) q = words (decimal s) q (lacks_blank s) in
+    sym one.rest ∙ ap other_words e ∙ other.rest
+
+-- Two equal texts that ask for a performance have the same line and the same text of it.
+pub same_job : (k m s l : ℕ) (t u : List ℕ) → l < 2 ^ 64 → perform_text k m t ≡ perform_text s l u → (m ≡ l) × (t ≡ u)
+same_job k m s l t u small e =
+    let behind : 32 ∷ (decimal k ++ 32 ∷ (decimal m ++ 32 ∷ (t ++ 10 ∷ []))) ≡ 32 ∷ (decimal s ++ 32 ∷ (decimal l ++ 32 ∷ (u ++ 10 ∷ []))) =
+    append_cancel_left (112 ∷ 101 ∷ 114 ∷ 102 ∷ 111 ∷ 114 ∷ 109 ∷ []) (32 ∷ (decimal k ++ 32 ∷ (decimal m ++ 32 ∷ (t ++ 10 ∷ [])))) (32 ∷ (decimal s ++ 32 ∷ (decimal l ++ 32 ∷ (u ++ 10 ∷ [])))) e in
+    let rest : decimal m ++ 32 ∷ (t ++ 10 ∷ []) ≡ decimal l ++ 32 ∷ (u ++ 10 ∷ []) =
+    after_blank k s (decimal m ++ 32 ∷ (t ++ 10 ∷ [])) (decimal l ++ 32 ∷ (u ++ 10 ∷ [])) (ap behind_first behind) in
+    let both : (m ≡ l) × (t ++ 10 ∷ [] ≡ u ++ 10 ∷ []) = front_is m l (t ++ 10 ∷ []) (u ++ 10 ∷ []) small rest in
+    (both.0, append_cancel_right t u (10 ∷ []) both.1)

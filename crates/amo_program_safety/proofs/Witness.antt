@@ -14,6 +14,7 @@ use Rattle.amo_run_log.specs.declared.finding.Resolution.TheVariants.{NotDone}
 use Rattle.amo_run_log.specs.Findings.{FitsFinding}
 use Rattle.amo_program_safety.specs.World.{Process, World, Event, Starts, Writes, Calls, Dies, Stops, Ends, Resolves, called, written, new_process, process_by, world_after}
 use Rattle.amo_program_safety.specs.Runs.{IsOver, IsRun, world_from, world_of, first_world}
+use Rattle.amo_program_safety.specs.Lists.{texts_handed}
 use Rattle.amo_program_safety.proofs.Playing.{Given, Move, Birth, Step, Write, Hand, Death, Deed, End, event_follows, run_of, is_run, run_both}
 
 -- the file of a round of line 1 alone, which this worker began
@@ -80,6 +81,27 @@ performing = hands_over ++ Deed 0 ∷ End 0 ∷ steps 3 one 1 ++ Write one 1 ∷
 pub a_line_is_performed : (es : List Event) × IsRun es × (map (λ h. h.line) (world_of es).performed ≡ 1 ∷ [])
 unfolding digits
 a_line_is_performed = (run_of first_world performing, is_run performing first_world, refl)
+
+-- ---- two processes read different lists
+
+-- the file of a round of line 2 alone, which worker 2 began
+abbrev file_of_line_2 : RoundFile
+file_of_line_2 = record (file_by 2) {
+  header = record (file_by 2).header {
+    lines = record { items = 2 ∷ []; len = 1; cap = 1; ptr = null_ptr; alloc = record { memory = record { seal = tt } }; ok = (refl, omega arith); small = omega arith };
+  };
+}
+
+-- a process of worker 2 reads a list in which the second line has the text of the first one of the other list
+abbrev other_list : Given
+other_list = record { file = file_of_line_2; lines = codes "b" ∷ codes "a" ∷ []; counted = nothing_counted; reply = Some (codes "done 1 0 go") }
+
+abbrev by_two_lists : List Move
+by_two_lists = hands_over ++ Deed 0 ∷ End 0 ∷ up_to_intent other_list 2 2 ++ clears other_list 2 ++ Hand 2 ∷ Deed 0 ∷ []
+
+pub two_lists_perform_a_text_twice : (es : List Event) × IsRun es × (texts_handed es ≡ codes "a" ∷ codes "a" ∷ []) × (map (λ h. h.line) (world_of es).performed ≡ 2 ∷ 1 ∷ [])
+unfolding digits
+two_lists_perform_a_text_twice = (run_of first_world by_two_lists, is_run by_two_lists first_world, refl, refl)
 
 -- ---- an append is lost
 

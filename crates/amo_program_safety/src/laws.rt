@@ -9,12 +9,14 @@ ghost use Rattle.amo_operator.specs.Calls.{PutDoubt};
 ghost use Rattle.amo_operator.specs.Phase.{Known, Probes};
 ghost use Rattle.amo_operator.specs.declared.model.Command.{Command};
 ghost use Rattle.amo_program_safety.specs.Finality.{HasEndedHere, IsFinalHere};
+ghost use Rattle.amo_program_safety.specs.Lists.{AllReadLinesOf, AreDistinctTexts, HasFewLines, HasNoTwoEqual, texts_handed};
 ghost use Rattle.amo_program_safety.specs.Machine.{Happens, Machine, Operator, Records, Step};
 ghost use Rattle.amo_program_safety.specs.Runs.{IsRun, world_of};
 ghost use Rattle.amo_program_safety.specs.Steps.{AreOfNoCommand, IsRun as IsRunOfAll, RunnersEnd, machine_of};
 ghost use Rattle.amo_program_safety.specs.Texts.{entries_of};
 ghost use Rattle.amo_program_safety.specs.Without.{AnswersFollowIntents, AppendsAreKept, AppendsAreWritten, AttemptsPerformOnce, CommandsLock, HeldAreNotAnswered, IsRunWithout, LinesComeOnce, LiveAreNotAnswered, LiveAreNotDenied, LocksExclude, OperatorsAreTruthful, PerformedAreNotAnswered, PerformedAreNotDenied, ReadsAreCurrent, RunnersAreHonest};
-ghost use Rattle.amo_program_safety.specs.World.{Event, Stops, Writes};
+ghost use Rattle.amo_program_safety.specs.World.{Event, HandsOver, Stops, Writes};
+ghost use Rattle.amo_run_files.specs.Jobs.{line_of};
 ghost use Rattle.amo_run_log.specs.Entries.{append_in};
 ghost use Rattle.amo_run_log.specs.declared.entry.Entry.TheVariants.{Answer as Answered, Intent};
 ghost use Rattle.amo_run_log.specs.declared.entry.Outcome.{Outcome};
@@ -32,6 +34,28 @@ pub fn programs_and_commands_perform_each_line_at_most_once()
 {
     lines_are_performed_once_by_journals_alone();
 }
+
+/// States that each text is performed at most once, and that the text that a runner gets is that of
+/// its line. We assume that all reads of the lines that a run knows give lines of one list, in which
+/// no two lines are equal. The rules of `Runs` and `Steps` are assumed too. They have line numbers
+/// alone.
+pub fn programs_and_commands_perform_each_text_at_most_once()
+    ensures handed { (list : List (List ℕ)) (steps more : List Step) (process serial line : ℕ) (text : List ℕ) → HasFewLines list
+        → IsRunOfAll (steps ++ Happens (HandsOver process serial line text) ∷ more)
+        → AllReadLinesOf list (steps ++ Happens (HandsOver process serial line text) ∷ more) → line_of list line ≡ Some text }
+    ensures performed { (list : List (List ℕ)) (steps : List Step) → HasFewLines list → IsRunOfAll steps → AllReadLinesOf list steps
+        → (h : Handing) → IsOneOf (machine_of steps).world.performed h → (text : List ℕ) × (line_of list h.line ≡ Some text) }
+    ensures once { (list : List (List ℕ)) (steps : List Step) → HasFewLines list → HasNoTwoEqual list → IsRunOfAll steps → AllReadLinesOf list steps
+        → AreDistinctTexts (map (λ h. line_of list h.line) (machine_of steps).world.performed) }
+{
+    programs_and_commands_perform_each_line_at_most_once();
+}
+
+/// States that there is a run in which two processes read different lists, and a text is performed
+/// twice, by attempts at two lines.
+pub fn without_one_list_a_text_is_performed_twice()
+    ensures { (es : List Event) × IsRun es × (texts_handed es ≡ codes "a" ∷ codes "a" ∷ []) × (map (λ h. h.line) (world_of es).performed ≡ 2 ∷ 1 ∷ []) }
+{}
 
 /// States that each run of processes of `work` and operators' commands is a run of the model by
 /// journals alone, in which the same attempts perform their lines. So what the short theorem of
