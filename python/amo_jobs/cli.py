@@ -58,7 +58,7 @@ from amo_jobs.run_folder import check_list, enter, joined, note_command
 from amo_jobs.settings import Settings
 from amo_jobs.status import again, answer, doubts, status
 from amo_jobs.statuses import Status
-from amo_jobs.worker import HERE, Program, boot_id_warning
+from amo_jobs.worker import Program, boot_id_warning, version
 from amo_watch import commands as watching
 
 RUNS = ("crew", "work")
@@ -255,12 +255,6 @@ ABOUT = {
                "forget tonight.txt", "forget --force tonight.txt"),
     **watching.ABOUT,
 }
-
-
-def version() -> str:
-    """Returns the version of this program."""
-    with open(f"{HERE}/VERSION", encoding="ascii") as file:
-        return file.read().strip()
 
 
 def parser_of(words: List[str]) -> argparse.ArgumentParser:

@@ -14,6 +14,7 @@ from typing import Any, Dict, Iterable, List, NamedTuple, Optional
 from amo_jobs.files import content
 from amo_jobs.messages import visible
 from amo_jobs.settings import Settings
+from amo_jobs.status import ANSWERS
 from amo_jobs.worker import HERE, TEST_BOOT_ID, Program
 from amo_watch.rates import rates_of
 from amo_watch.snapshot import Attempt, Snapshot, snapshot_of
@@ -137,7 +138,7 @@ def commands_of(run: Run, it: Attempt, text: str) -> List[str]:
     if it.state == "pending":
         return [run.command("doubts")]
     return [run.command("answer", "--", it.name, str(it.line), text, verdict)
-            for verdict in ("done", "not-done")]
+            for verdict in ANSWERS]
 
 
 def histogram_of(seconds: Iterable[int]) -> List[Dict[str, Any]]:

@@ -7,11 +7,10 @@ from __future__ import annotations
 
 import html
 import shlex
-import time
 from typing import Any, Dict, Iterator, Optional
 
 from amo_jobs.messages import visible
-from amo_jobs.status import lasting
+from amo_jobs.status import ANSWERS, dated, lasting
 from amo_watch.assets import policy, SCRIPT, STYLE
 from amo_watch.charts import histogram, timeline
 
@@ -37,12 +36,6 @@ def line_text(row: Dict[str, Any]) -> str:
     """Returns the text of a line, as far as the report has it."""
     more = f" <span class=\"soft\">.. {row['cut']} more characters</span>" if row["cut"] else ""
     return folded(row["text"]) + more
-
-
-def dated(seconds: Optional[int]) -> str:
-    """Returns a time as a date of this machine's time zone."""
-    return ("at a time that is not known" if seconds is None
-            else time.strftime("%Y-%m-%d %H:%M:%S", time.localtime(seconds)))
 
 
 def page_of(facts: Dict[str, Any]) -> Iterator[str]:
@@ -156,8 +149,7 @@ def answers(row: Dict[str, Any]) -> str:
     """Returns the commands by which an operator answers, each with what it says."""
     if row["state"] == "pending" or not row["commands"]:
         return ""
-    done, not_done = row["commands"]
-    return command(done, "If it happened:") + command(not_done, "If it surely didn't happen:")
+    return "".join(map(command, row["commands"], ANSWERS.values()))
 
 
 def outputs(row: Dict[str, Any]) -> str:

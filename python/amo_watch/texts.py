@@ -65,12 +65,18 @@ def quoted(word: str) -> str:
         return shlex.quote(word)
     parts = []
     for it in word:
-        code = ord(it)
         if it in "\\'":
             parts.append(f"\\{it}")
         elif it.isprintable():
             parts.append(it)
         else:
-            parts.append(f"\\U{code:08x}" if code > 0xffff
-                         else f"\\u{code:04x}" if code > 0x7f else f"\\x{code:02x}")
+            parts.append(escape_of(ord(it)))
     return f"$'{''.join(parts)}'"
+
+
+def escape_of(code: int) -> str:
+    """Returns a character's escape for bash; of one that stands for a byte of a path, that byte."""
+    if 0xdc80 <= code <= 0xdcff:
+        return f"\\x{code - 0xdc00:02x}"
+    return (f"\\U{code:08x}" if code > 0xffff
+            else f"\\u{code:04x}" if code > 0x7f else f"\\x{code:02x}")

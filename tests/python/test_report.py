@@ -236,6 +236,15 @@ class Snapshots(unittest.TestCase):
         self.assertEqual(texts.quoted("a b"), "'a b'")
         self.assertEqual(texts.quoted("a\tb'\u202e\U000e0001"), "$'a\\x09b\\'\\u202e\\U000e0001'")
 
+    def test_bash_reads_the_word_as_it_is(self):
+        for word in ("it's", "$(touch x) `y`; !z | w", "\\", "a\tb\x1b\x7f", "\u202e9", "\U000e0001",
+                     os.fsdecode(b"/a\xff0/\xc3\xa9")):
+            script = f"printf %s {texts.quoted(word)}"
+            self.assertTrue(script.isprintable(), script)
+            ran = subprocess.run(["bash", "-c", script], stdout=subprocess.PIPE, check=True,
+                                 env={"LC_ALL": "C.UTF-8"})
+            self.assertEqual(os.fsdecode(ran.stdout), word)
+
     def test_a_line_is_found_by_its_number_while_the_list_grows(self):
         with tempfile.TemporaryDirectory() as run:
             with open(f"{run}/jobs", "wb") as file:

@@ -11,6 +11,7 @@ from package import until
 
 from amo_jobs import calls, processes, status
 from amo_jobs.statuses import KINDS, Status
+from amo_watch import texts
 
 NONE = dict.fromkeys(KINDS, 0)
 
@@ -126,9 +127,9 @@ class Ages(unittest.TestCase):
             self.assertEqual(status.lasting(seconds), wanted)
 
     def test_an_age_may_be_unknown_or_ahead_of_the_clock(self):
+        self.assertEqual(status.how_old({"ended": None, "age": None}),
+                         "ended at a time that is not known")
         with mock.patch.object(status, "dated", lambda it: f"DATE{it}"):
-            self.assertEqual(status.how_old({"ended": None, "age": None}),
-                             "ended at a time that is not known")
             self.assertEqual(status.how_old({"ended": 9, "age": None}),
                              "ended DATE9, which is ahead of the clock")
             self.assertEqual(status.how_old({"ended": 9, "age": 3725}),
@@ -137,7 +138,7 @@ class Ages(unittest.TestCase):
     def test_the_end_of_an_output_is_shown_line_by_line(self):
         with tempfile.TemporaryDirectory() as room:
             path = f"{room}/out.1.2"
-            self.assertEqual(status.end_of(path), "")
+            self.assertEqual(texts.outputs_of([room], "1.2"), [])
             for data, wanted in [
                     (b"", ""), (b"a\n\x1b[2J\n", f"  {path}, 7 bytes:\n    | a\n    | \\x1b[2J\n"),
                     (b"1\n2\n3\n4\n5\n6\n7", f"  {path}, 13 bytes:\n    | 3\n    | 4\n    | 5\n"
@@ -145,7 +146,8 @@ class Ages(unittest.TestCase):
                     (b"y" * 3000, f"  {path}, 3000 bytes:\n    | {'y' * 1000}\n")]:
                 with open(path, "wb") as file:
                     file.write(data)
-                self.assertEqual(status.end_of(path), wanted)
+                found = map(status.shown, texts.outputs_of([room], "1.2"))
+                self.assertEqual("".join(found), wanted)
 
 
 if __name__ == "__main__":
