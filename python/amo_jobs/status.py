@@ -145,9 +145,9 @@ def listed(run: str, found: Dict[str, Any], states: Collection[str]) -> Iterator
 # ---- doubts
 
 def dated(seconds: Optional[int]) -> str:
-    """Returns a time in seconds since 1970 as a date of this machine's time zone."""
+    """Returns a time in seconds since 1970 as a date, with the offset of this machine's zone."""
     return ("at a time that is not known" if seconds is None
-            else time.strftime("%Y-%m-%d %H:%M:%S", time.localtime(seconds)))
+            else time.strftime("%Y-%m-%d %H:%M:%S %z", time.localtime(seconds)))
 
 
 def lasting(seconds: int) -> str:

@@ -1,6 +1,7 @@
 """How lines are counted and listed, and how old a doubt is."""
 
 import itertools
+import os
 import subprocess
 import tempfile
 import time
@@ -125,6 +126,13 @@ class Ages(unittest.TestCase):
                 (3659, "1 h"), (3660, "1 h 1 min"), (86399, "23 h 59 min"), (86400, "1 d"),
                 (90000, "1 d 1 h"), (100 * 86400 + 59, "100 d")]:
             self.assertEqual(status.lasting(seconds), wanted)
+
+    def test_a_time_has_the_offset_of_its_zone(self):
+        self.addCleanup(time.tzset)
+        with mock.patch.dict(os.environ, {"TZ": "XST-5:30"}):
+            time.tzset()
+            self.assertEqual(status.dated(0), "1970-01-01 05:30:00 +0530")
+        self.assertEqual(status.dated(None), "at a time that is not known")
 
     def test_an_age_may_be_unknown_or_ahead_of_the_clock(self):
         self.assertEqual(status.how_old({"ended": None, "age": None}),

@@ -184,7 +184,7 @@ def try_ages(bench):
     """doubts says how long ago each attempt ended, for people and as JSON"""
     scene = sent(bench)
     told = scene.call("doubts")
-    want(re.search(r"^  started [-0-9: ]{19} by worker 1, ended [-0-9: ]{19}, \d+ (s|min|h)( \d+ s)? ago$", told, re.M), told)
+    want(re.search(r"^  started [-0-9: ]{19} [-+]\d{4} by worker 1, ended [-0-9: ]{19} [-+]\d{4}, \d+ (s|min|h)( \d+ s)? ago$", told, re.M), told)
     found, = json.loads(scene.call("doubts", "--json"))
     recorded, = [it.ended for it in scene.look().intents.values()]
     want(found["ended"] == recorded and found["age"] >= 0, f"{found}, recorded at {recorded}")
