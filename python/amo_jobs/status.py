@@ -20,10 +20,13 @@ from amo_jobs.run_folder import name_run
 from amo_jobs.settings import Settings, next_command
 from amo_jobs.statuses import KINDS, Status
 from amo_jobs.worker import Program
-from amo_watch.texts import Output, outputs_of
+from amo_watch.texts import dated, Output, outputs_of
 
-# What an operator may answer, and when. A line of a terminal that is copied is one whole command.
+# Each answer that the operator may give, with the text above its command.
 ANSWERS = {"done": "If it happened:", "not-done": "If it surely did not happen:"}
+# Printed below all doubts: no lock shows these processes.
+LOOK = ("If a runner was killed, list the processes that its commands have left, before an answer:\n"
+        "  grep -lsz ^AMO_JOB= /proc/[0-9]*/environ | cut -d/ -f3 | xargs -rn1 ps -o pid=,args= -p")
 NO_PROCESS = "its worker is alive, or a process of another user"
 
 
@@ -66,6 +69,7 @@ def doubts(settings: Settings, program: Program) -> int:
         words = ["answer", "--", name, str(it["line"]), it["text"]]
         for verdict, label in ANSWERS.items():
             print(f"  {label}\n    {next_command(settings, *words, verdict)}")
+    print(f"{LOOK}\n" if found else "", end="")
     return Status.DONE
 
 
@@ -143,12 +147,6 @@ def listed(run: str, found: Dict[str, Any], states: Collection[str]) -> Iterator
 
 
 # ---- doubts
-
-def dated(seconds: Optional[int]) -> str:
-    """Returns a time in seconds since 1970 as a date, with the offset of this machine's zone."""
-    return ("at a time that is not known" if seconds is None
-            else time.strftime("%Y-%m-%d %H:%M:%S %z", time.localtime(seconds)))
-
 
 def lasting(seconds: int) -> str:
     """Returns a number of seconds by its two largest units, rounded down."""

@@ -4,7 +4,7 @@ from __future__ import annotations
 
 from typing import Any, Dict, Iterator
 
-from amo_jobs.status import dated
+from amo_watch.texts import dated
 
 KINDS = ("done", "failed", "doubt", "pending", "untouched", "open")
 NAMES = {"done": "done", "failed": "failed", "doubt": "in doubt",

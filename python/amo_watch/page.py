@@ -10,9 +10,10 @@ import shlex
 from typing import Any, Dict, Iterator, Optional
 
 from amo_jobs.messages import visible
-from amo_jobs.status import ANSWERS, dated, lasting
+from amo_jobs.status import ANSWERS, lasting
 from amo_watch.assets import policy, SCRIPT, STYLE
 from amo_watch.charts import histogram, timeline
+from amo_watch.texts import dated
 
 LONG = 600  # characters of a text that are shown at once
 WORDS = {"done": "done", "failed": "failed", "doubt": "in doubt",

@@ -143,6 +143,20 @@ class Ages(unittest.TestCase):
             self.assertEqual(status.how_old({"ended": 9, "age": 3725}),
                              "ended DATE9, 1 h 2 min ago")
 
+    def test_the_printed_command_finds_what_a_command_has_left(self):
+        with subprocess.Popen(["sleep", "60"], env={"AMO_JOB": "rent"}) as left, \
+                subprocess.Popen(["sleep", "60"], env={"NOT_AMO_JOB": "rent"}) as other:
+            try:
+                until(lambda: calls.words_of(left.pid) and calls.words_of(other.pid))
+                script = status.LOOK.splitlines()[1]
+                ran = subprocess.run(["bash", "-c", script], stdout=subprocess.PIPE, text=True)
+                found = [it.split() for it in ran.stdout.splitlines()]
+                self.assertIn([str(left.pid), "sleep", "60"], found)
+                self.assertNotIn([str(other.pid), "sleep", "60"], found)
+            finally:
+                left.kill()
+                other.kill()
+
     def test_the_end_of_an_output_is_shown_line_by_line(self):
         with tempfile.TemporaryDirectory() as room:
             path = f"{room}/out.1.2"
