@@ -8,8 +8,8 @@
                   prints how all lines stand, which workers are alive, and when the run ends
   amo_jobs doubts [--run DIR | JOBS] [--json]
                   prints each line that is in doubt for good, for the operator to look up
-  amo_jobs answer [--run DIR | JOBS] [--quiet SECONDS | --now] P.S LINE TEXT done|not-done
-                  records what the operator found out; many answers at once: --from FILE
+  amo_jobs answer [--quiet SECONDS | --now] [--run DIR | JOBS] -- P.S LINE TEXT ANSWER
+                  records what the operator found out, done or not-done; many at once: --from FILE
   amo_jobs again  [--run DIR | JOBS]
                   opens each untouched line once more
   amo_jobs forget [--run DIR] [--force] JOBS
@@ -27,7 +27,7 @@ A line of JOBS is a job, and its text is the job's name. COMMAND gets the text a
 argument: in place of each argument {}, or as the last argument if there is no {}. AMO_JOB holds the
 text too, and AMO_LINE the number of the line. Without --run, the folder of the run is JOBS.run.
 `amo_jobs crew --help` prints the options of `crew` with their defaults, and so does each other
-command. docs/JOBS.md explains the rest.
+command. docs/guide/commands.md and docs/guide/operating.md explain the rest.
 
 The file JOBS.run-is holds the id of the list's run and the path of its folder. If that folder is
 missing or has another id, a crew is refused, since it would run every line again. Once all lines
@@ -58,7 +58,7 @@ from amo_jobs.run_folder import check_list, enter, joined, note_command
 from amo_jobs.settings import Settings
 from amo_jobs.status import again, answer, doubts, status
 from amo_jobs.statuses import Status
-from amo_jobs.worker import HERE, Program, boot_id_warning
+from amo_jobs.worker import Program, boot_id_warning, version
 from amo_watch import commands as watching
 
 RUNS = ("crew", "work")
@@ -246,21 +246,15 @@ ABOUT = {
                "status tonight.txt", "status --lines failed tonight.txt"),
     "doubts": ("Prints each line that is in doubt for good.",
                "doubts tonight.txt", "doubts --run tonight.txt.run"),
-    "answer": ("Records what the operator found out about an attempt.",
-               "answer tonight.txt 3.17 401 'rent 700 to Ada' done",
-               "answer --quiet 3600 --from answers.txt tonight.txt"),
+    "answer": ("Records what the operator found out about an attempt. Options stand before JOBS.",
+               "answer --quiet 3600 tonight.txt -- 3.17 401 'rent 700 to Ada' not-done",
+               "answer --from answers.txt tonight.txt"),
     "again": ("Opens each untouched line once more.",
               "again tonight.txt", "again --run tonight.txt.run"),
     "forget": ("Puts a run away, with its list. Deletes nothing.",
                "forget tonight.txt", "forget --force tonight.txt"),
     **watching.ABOUT,
 }
-
-
-def version() -> str:
-    """Returns the version of this program."""
-    with open(f"{HERE}/VERSION", encoding="ascii") as file:
-        return file.read().strip()
 
 
 def parser_of(words: List[str]) -> argparse.ArgumentParser:

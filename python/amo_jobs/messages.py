@@ -98,6 +98,22 @@ def refused(text: str) -> End:
     return End(Status.REFUSED, visible(text))
 
 
+def confirm(text: str) -> None:
+    """Prints what was recorded. If nobody takes that text, the message says that it was."""
+    try:
+        print(text, flush=True)
+    except OSError as error:
+        drop_output()
+        raise End(Status.WRITE, f"standard output: {lowered(error)}; all was recorded before that,"
+                                " so don't give this command again") from None
+
+
+def drop_output() -> None:
+    """Drops what standard output has not taken; else Python reports it."""
+    with suppress(OSError):
+        os.dup2(os.open(os.devnull, os.O_WRONLY), 1)
+
+
 def end_of(call: Callable[[], int], looks: str) -> Tuple[int, Optional[str]]:
     """Calls a program. Returns its exit status, and its last message. `looks` says how the operator
     finds out how far it is."""
@@ -114,8 +130,7 @@ def end_of(call: Callable[[], int], looks: str) -> Tuple[int, Optional[str]]:
         return 128 + signal.SIGINT, None
     except OSError as error:
         message = reason(error)
-        with suppress(OSError):  # what standard output has not taken; else Python reports it
-            os.dup2(os.open(os.devnull, os.O_WRONLY), 1)
+        drop_output()
         return (Status.READ if isinstance(error, FileNotFoundError) else Status.WRITE), message
     except Exception:
         sys.excepthook(*sys.exc_info())

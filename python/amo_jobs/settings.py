@@ -3,12 +3,12 @@
 from __future__ import annotations
 
 import os
-import shlex
 import sys
 from dataclasses import dataclass, field
 from typing import Collection, List, Optional
 
 from amo_jobs.worker import Program
+from amo_watch.texts import quoted
 
 
 @dataclass
@@ -76,5 +76,5 @@ def names_of_run(settings: Settings) -> List[str]:
 
 
 def next_command(settings: Settings, what: str, *words: str) -> str:
-    """Returns the command for the shell that does this with the same run."""
-    return shlex.join([sys.argv[0], what, *settings.names, *words])
+    """Returns the command for bash that does this with the same run."""
+    return " ".join(map(quoted, [sys.argv[0], what, *settings.names, *words]))

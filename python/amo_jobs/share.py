@@ -43,7 +43,7 @@ from amo_jobs.files import content, place
 from amo_jobs.locks import locked
 from amo_jobs.messages import End, end_of, refused, visible
 from amo_jobs.statuses import Status
-from amo_jobs.worker import Program, boot_id_warning
+from amo_jobs.worker import Program, boot_id_warning, version
 
 NAME = re.compile(r"\w[\w.-]{0,63}", re.A)
 
@@ -220,7 +220,7 @@ def sharing_of(words: List[str]) -> Sharing:
     top = argparse.ArgumentParser("amo_share", None, __doc__, argument_default=argparse.SUPPRESS,
                                   formatter_class=argparse.RawDescriptionHelpFormatter)
     if not is_status:
-        shown = f"amo_share {cli.version()}" if words[:1] == ["--version"] else ""
+        shown = f"amo_share {version()}" if words[:1] == ["--version"] else ""
         top.add_argument("--version", action="version", version=shown)
     for name, how in OPTIONS[9:] if is_status else OPTIONS:
         top.add_argument(name, **how)

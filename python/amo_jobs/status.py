@@ -11,17 +11,22 @@ import os
 import sys
 import time
 from contextlib import suppress
-from typing import Any, Collection, Dict, Iterator, List
+from typing import Any, Collection, Dict, Iterator, List, Optional
 
 from amo_jobs.files import content
-from amo_jobs.messages import visible
+from amo_jobs.messages import confirm, visible
 from amo_jobs.processes import holders
 from amo_jobs.run_folder import name_run
 from amo_jobs.settings import Settings, next_command
-from amo_jobs.starter import OUTPUTS
 from amo_jobs.statuses import KINDS, Status
 from amo_jobs.worker import Program
+from amo_watch.texts import dated, Output, outputs_of
 
+# Each answer that the operator may give, with the text above its command.
+ANSWERS = {"done": "If it happened:", "not-done": "If it surely did not happen:"}
+# Printed below all doubts: no lock shows these processes.
+LOOK = ("If a runner was killed, list the processes that its commands have left, before an answer:\n"
+        "  grep -lsz ^AMO_JOB= /proc/[0-9]*/environ | cut -d/ -f3 | xargs -rn1 ps -o pid=,args= -p")
 NO_PROCESS = "its worker is alive, or a process of another user"
 
 
@@ -60,10 +65,11 @@ def doubts(settings: Settings, program: Program) -> int:
         name = it["intent"]
         print(f"{name}, line {it['line']}: {visible(it['text'])}")
         print(f"  started {dated(it['time'])} by worker {name.split('.')[0]}, {how_old(it)}")
-        for path in (f"{folder}/{kind}.{name}" for kind in OUTPUTS for folder in folders):
-            print(end_of(path), end="")
-        command = next_command(settings, "answer", "--", name, str(it["line"]), it["text"])
-        print(f"  {command} done|not-done")
+        print("".join(map(shown, outputs_of(folders, name))), end="")
+        words = ["answer", "--", name, str(it["line"]), it["text"]]
+        for verdict, label in ANSWERS.items():
+            print(f"  {label}\n    {next_command(settings, *words, verdict)}")
+    print(f"{LOOK}\n" if found else "", end="")
     return Status.DONE
 
 
@@ -77,7 +83,7 @@ def answer(settings: Settings, program: Program) -> int:
         name_run(settings, program)
         quiet = ["--now"] if settings.now else ["--quiet", str(settings.quiet)]
         program.call("answer", settings.run, *quiet, "--from", settings.source or file.name)
-    print("recorded")
+    confirm("recorded")
     return Status.DONE
 
 
@@ -87,7 +93,7 @@ def again(settings: Settings, program: Program) -> int:
     name_run(settings, program)
     count = program.status(settings.run)["untouched"]
     program.call("again", settings.run)
-    print(f"untouched lines that are open again: {count}")
+    confirm(f"untouched lines that are open again: {count}")
     return Status.DONE
 
 
@@ -142,11 +148,6 @@ def listed(run: str, found: Dict[str, Any], states: Collection[str]) -> Iterator
 
 # ---- doubts
 
-def dated(seconds: int) -> str:
-    """Returns a time in seconds since 1970 as a date of this machine's time zone."""
-    return time.strftime("%Y-%m-%d %H:%M:%S", time.localtime(seconds))
-
-
 def lasting(seconds: int) -> str:
     """Returns a number of seconds by its two largest units, rounded down."""
     sizes = ((86400, "d"), (3600, "h"), (60, "min"), (1, "s"))
@@ -162,19 +163,13 @@ def lasting(seconds: int) -> str:
 def how_old(doubt: Dict[str, Any]) -> str:
     """Returns when an attempt ended, and how long ago."""
     if doubt["ended"] is None:
-        return "ended at a time that is not known"
+        return f"ended {dated(None)}"
     if doubt["age"] is None:
         return f"ended {dated(doubt['ended'])}, which is ahead of the clock"
     return f"ended {dated(doubt['ended'])}, {lasting(doubt['age'])} ago"
 
 
-def end_of(path: str) -> str:
-    """Returns the end of what a command wrote to this file, line by line; an empty text if there is
-    nothing."""
-    with suppress(OSError), open(path, "rb") as file:
-        size = file.seek(0, os.SEEK_END)
-        file.seek(max(size - 1000, 0))
-        lines = file.read().decode("utf-8", "replace").splitlines()[-5:]
-        shown = "".join(f"    | {visible(line)}\n" for line in lines)
-        return f"  {path}, {size} bytes:\n{shown}" if size else ""
-    return ""
+def shown(output: Output) -> str:
+    """Returns the end of what a command wrote to a file, line by line."""
+    end = "".join(f"    | {visible(line)}\n" for line in output.end)
+    return f"  {output.path}, {output.size} bytes:\n{end}"

@@ -15,6 +15,12 @@ HERE = os.path.dirname(os.path.dirname(os.path.dirname(os.path.realpath(__file__
 TEST_BOOT_ID = "AMO_TEST_BOOT_ID"  # the variable that names a file with the boot id, for tests
 
 
+def version() -> str:
+    """Returns the version of the programs here."""
+    with open(f"{HERE}/VERSION", encoding="ascii") as file:
+        return file.read().strip()
+
+
 def boot_id_warning() -> str:
     """Returns the warning that the boot id is a test's; an empty text if it is the system's."""
     path = os.environ.get(TEST_BOOT_ID, "")

@@ -2,8 +2,9 @@
 
 from __future__ import annotations
 
-import time
 from typing import Any, Dict, Iterator
+
+from amo_watch.texts import dated
 
 KINDS = ("done", "failed", "doubt", "pending", "untouched", "open")
 NAMES = {"done": "done", "failed": "failed", "doubt": "in doubt",
@@ -30,17 +31,12 @@ def timeline(facts: Dict[str, Any]) -> Iterator[str]:
         for bar in lane["bars"]:
             yield bar_of(bar, found)
         yield "".join(mark_of(it, found) for it in found["marks"]) + "</div></div>"
-    yield f"<p class=\"scale soft\"><span>{clock(found['from'])}</span>"
-    yield f"<span>{clock(found['to'])}</span></p>"
+    yield f"<p class=\"scale soft\"><span>{dated(found['from'])}</span>"
+    yield f"<span>{dated(found['to'])}</span></p>"
     if found["marks"]:
         yield "<p>Dotted lines:</p><ul>" + "".join(
-            f"<li>{clock(it['time'])}: {it['what']}</li>" for it in found["marks"]) + "</ul>"
+            f"<li>{dated(it['time'])}: {it['what']}</li>" for it in found["marks"]) + "</ul>"
     yield "</section>"
-
-
-def clock(seconds: int) -> str:
-    """Returns a time of this machine's time zone."""
-    return time.strftime("%Y-%m-%d %H:%M:%S", time.localtime(seconds))
 
 
 def place(seconds: float, found: Dict[str, Any]) -> float:

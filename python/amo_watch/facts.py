@@ -14,6 +14,7 @@ from typing import Any, Dict, Iterable, List, NamedTuple, Optional
 from amo_jobs.files import content
 from amo_jobs.messages import visible
 from amo_jobs.settings import Settings
+from amo_jobs.status import ANSWERS
 from amo_jobs.worker import HERE, TEST_BOOT_ID, Program
 from amo_watch.rates import rates_of
 from amo_watch.snapshot import Attempt, Snapshot, snapshot_of
@@ -95,14 +96,15 @@ def facts_of(settings: Settings, program: Program, version: str) -> Dict[str, An
     spans = [(it.seconds, it) for it in found.attempts.values()]
     timed = [(span, it) for span, it in spans if span is not None]
     slow = [it for _, it in heapq.nsmallest(MOST_SLOW, timed, lambda row: (-row[0], row[1].line))]
-    texts = Lines(settings.run).texts({it.line for rows in [*shown.values(), slow] for it in rows})
+    answered = sorted((it for _, it in spans if it.answer), key=lambda it: (it.line, it[:2]))
+    shown = {**shown, "answered": answered[:MOST_ROWS], "slowest": slow}
+    texts = Lines(settings.run).texts({it.line for rows in shown.values() for it in rows})
     facts = {**head_of(run, found), "rates": rates_of(found),
-             **{name: [row_of(run, found.time, it, texts, budget) for it in rows]
+             **{name: [row_of(run, found.time, it, texts, budget, name in LISTS) for it in rows]
                 for name, rows in shown.items()},
-             "slowest": [row_of(run, found.time, it, texts, budget, False) for it in slow],
              "again": run.command("again"), "histogram": histogram_of([span for span, _ in timed]),
              "timeline": timeline_of(found, settings.run)}
-    facts["left_out"] = left_out(facts, lists, budget, run)
+    facts["left_out"] = left_out(facts, {**lists, "answered": answered}, budget, run)
     return facts
 
 
@@ -128,7 +130,7 @@ def row_of(run: Run, now: int, it: Attempt, texts: Dict[int, str], budget: Budge
     outputs = budget.outputs(outputs_of(run.folders(), it.name)) if is_whole else []
     return {"attempt": it.name, "line": it.line, "text": shown, "cut": len(text) - len(shown),
             "begun": it.begun, "ended": it.ended, "age": age, "seconds": it.seconds,
-            "code": it.code, "state": it.state, "outputs": [row._asdict() for row in outputs],
+            "code": it.code, "state": it.state, "answer": it.answer, "outputs": [row._asdict() for row in outputs],
             "commands": commands if shown == text or it.state == "pending" else []}
 
 
@@ -137,7 +139,7 @@ def commands_of(run: Run, it: Attempt, text: str) -> List[str]:
     if it.state == "pending":
         return [run.command("doubts")]
     return [run.command("answer", "--", it.name, str(it.line), text, verdict)
-            for verdict in ("done", "not-done")]
+            for verdict in ANSWERS]
 
 
 def histogram_of(seconds: Iterable[int]) -> List[Dict[str, Any]]:
@@ -153,10 +155,9 @@ def left_out(facts: Dict[str, Any], lists: Dict[str, List[Attempt]], budget: Bud
     said = []
     for name, rows in lists.items():
         if len(rows) > MOST_ROWS:
-            kind = "running" if name == "pending" else LISTS[name]
-            more = run.command("status", "--lines", kind)
-            said.append(f"{len(rows) - MOST_ROWS} more {name}, after the first {MOST_ROWS}; to"
-                        f" list them all: {more}")
+            kind = {**LISTS, "pending": "running"}.get(name)
+            more = f"; to list them all: {run.command('status', '--lines', kind)}" if kind else ""
+            said.append(f"{len(rows) - MOST_ROWS} more {name}, after the first {MOST_ROWS}{more}")
     if facts["timeline"]["is_aggregated"]:
         said.append(f"single attempts in the timeline, since there are {facts['attempts']}: each"
                     " bar stands for all attempts that began in its time")

@@ -7,13 +7,13 @@ from __future__ import annotations
 
 import html
 import shlex
-import time
 from typing import Any, Dict, Iterator, Optional
 
 from amo_jobs.messages import visible
-from amo_jobs.status import lasting
+from amo_jobs.status import ANSWERS, lasting
 from amo_watch.assets import policy, SCRIPT, STYLE
 from amo_watch.charts import histogram, timeline
+from amo_watch.texts import dated
 
 LONG = 600  # characters of a text that are shown at once
 WORDS = {"done": "done", "failed": "failed", "doubt": "in doubt",
@@ -39,12 +39,6 @@ def line_text(row: Dict[str, Any]) -> str:
     return folded(row["text"]) + more
 
 
-def dated(seconds: Optional[int]) -> str:
-    """Returns a time as a date of this machine's time zone."""
-    return ("at a time that is not known" if seconds is None
-            else time.strftime("%Y-%m-%d %H:%M:%S", time.localtime(seconds)))
-
-
 def page_of(facts: Dict[str, Any]) -> Iterator[str]:
     """Yields the page, part by part."""
     name = facts["list"] or facts["folder"]
@@ -58,8 +52,9 @@ def page_of(facts: Dict[str, Any]) -> Iterator[str]:
                     " It may have done something.")
     yield from rows(facts, "untouched", "Untouched", "Each command reported that it did nothing."
                     " The last command here opens all of these lines once more.")
+    yield from table(facts, "answered", "Answered by hand", "Nobody has answered.")
     yield from timeline(facts)
-    yield from slowest(facts)
+    yield from table(facts, "slowest", "Slowest lines", "No attempt has ended.")
     yield from histogram(facts)
     yield from given(facts)
     yield f"<script>{SCRIPT}</script></body></html>\n"
@@ -74,7 +69,7 @@ def head(facts: Dict[str, Any], name: str) -> Iterator[str]:
         yield f"<div><dt class=\"{kind}\">{WORDS[kind]}</dt><dd>{count}</dd></div>"
     yield f"</dl><p>{shown(pace_text(facts))}</p>"
     parts = [("doubts", "In doubt"), ("failures", "Failed"), ("untouched", "Untouched"),
-             ("timeline", "Timeline"), ("slowest", "Slowest lines"), ("histogram", "Durations"),
+             ("answered", "Answered"), ("timeline", "Timeline"), ("slowest", "Slowest lines"), ("histogram", "Durations"),
              ("given", "Settings of the run")]
     links = "".join(f"<li><a href=\"#{it}\">{text}</a></li>" for it, text in parts)
     yield f"<nav aria-label=\"Parts\"><ul>{links}</ul></nav><p class=\"tools\" id=\"tools\"></p>"
@@ -156,8 +151,7 @@ def answers(row: Dict[str, Any]) -> str:
     """Returns the commands by which an operator answers, each with what it says."""
     if row["state"] == "pending" or not row["commands"]:
         return ""
-    done, not_done = row["commands"]
-    return command(done, "If it happened:") + command(not_done, "If it surely didn't happen:")
+    return "".join(map(command, row["commands"], ANSWERS.values()))
 
 
 def outputs(row: Dict[str, Any]) -> str:
@@ -180,21 +174,28 @@ def command(text: str, label: str) -> str:
             f"{html.escape(text)}</code>")
 
 
-def slowest(facts: Dict[str, Any]) -> Iterator[str]:
-    """Yields the table of the slowest lines."""
-    yield "<section id=\"slowest\"><h2>Slowest lines</h2>"
-    if not facts["slowest"]:
-        yield "<p>No attempt has ended.</p></section>"
+def table(facts: Dict[str, Any], name: str, title: str, none: str) -> Iterator[str]:
+    """Yields the table of one list, or this text if the list is empty."""
+    yield f"<section id=\"{name}\"><h2>{title}</h2>"
+    if not facts[name]:
+        yield f"<p>{none}</p></section>"
         return
     heads = ("Line", "Text", "Attempt", "Seconds", "Begun", "How it stands")
     yield ("<table class=\"sorted\"><thead><tr>"
            + "".join(f"<th scope=\"col\">{it}</th>" for it in heads) + "</tr></thead><tbody>")
-    for row in facts["slowest"]:
+    for row in facts[name]:
         cells = [(row["line"], shown(row["line"])), (None, line_text(row)),
                  (None, shown(row["attempt"])), (row["seconds"], shown(row["seconds"])),
-                 (row["begun"], dated(row["begun"])), (None, WORDS[row["state"]])]
-        yield "<tr>" + "".join(cell(name, *it) for name, it in zip(heads, cells)) + "</tr>"
+                 (row["begun"], dated(row["begun"])), (None, standing(row))]
+        yield "<tr>" + "".join(cell(head, *it) for head, it in zip(heads, cells)) + "</tr>"
     yield "</tbody></table></section>"
+
+
+def standing(row: Dict[str, Any]) -> str:
+    """Returns how an attempt stands. An answer counts for its line, not for what was seen."""
+    if row["answer"]:
+        return "done, as answered" if row["answer"] == "done" else "opened again"
+    return "not started" if row["state"] == "open" else WORDS[row["state"]]
 
 
 def cell(name: str, key: Optional[int], content: str) -> str:

@@ -9,15 +9,9 @@ import sys
 from amo_jobs.run_folder import name_run
 from amo_jobs.settings import Settings
 from amo_jobs.statuses import Status
-from amo_jobs.worker import HERE, Program
+from amo_jobs.worker import Program, version
 from amo_watch.facts import facts_of
 from amo_watch.page import page_of
-
-
-def version() -> str:
-    """Returns the version of this program."""
-    with open(f"{HERE}/VERSION", encoding="ascii") as file:
-        return file.read().strip()
 
 
 def report(settings: Settings, program: Program) -> int:

@@ -19,6 +19,10 @@ FORMAT = 1  # of the lines
 # is running or in doubt.
 COUNTS = ("done", "failed", "doubt", "pending", "untouched", "open")
 
+# The state of an outcome that nobody answered; `done` with a code above 0 is failed.
+OWN = {"pending": "pending", "done": "done", "doubt": "doubt", "unbegun": "open",
+       "untouched": "untouched"}
+
 
 class Attempt(NamedTuple):
     """One attempt, as its records say. Times are in seconds since 1970; None is not known."""
@@ -36,6 +40,12 @@ class Attempt(NamedTuple):
     def name(self) -> str:
         """The name by which an operator answers, P.S."""
         return f"{self.worker}.{self.serial}"
+
+    @property
+    def answer(self) -> Optional[str]:
+        """What an operator answered, which the state shows; None if nobody did."""
+        own = "failed" if self.outcome == "done" and self.code else OWN.get(self.outcome)
+        return None if self.state == own else "not-done" if self.state == "open" else "done"
 
     @property
     def seconds(self) -> Optional[int]:

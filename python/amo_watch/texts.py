@@ -1,12 +1,13 @@
-"""The lines of a run's list, by number, and the ends of what commands have printed."""
+"""The texts of a run: lines of its list, ends of what commands have printed, words, dates."""
 
 from __future__ import annotations
 
 import os
 import shlex
+import time
 from array import array
 from contextlib import suppress
-from typing import BinaryIO, Collection, Dict, List, NamedTuple
+from typing import BinaryIO, Collection, Dict, List, NamedTuple, Optional
 
 LAST, MOST = 5, 1000  # of an output: so many lines at its end, of so many bytes together
 
@@ -65,12 +66,24 @@ def quoted(word: str) -> str:
         return shlex.quote(word)
     parts = []
     for it in word:
-        code = ord(it)
         if it in "\\'":
             parts.append(f"\\{it}")
         elif it.isprintable():
             parts.append(it)
         else:
-            parts.append(f"\\U{code:08x}" if code > 0xffff
-                         else f"\\u{code:04x}" if code > 0x7f else f"\\x{code:02x}")
+            parts.append(escape_of(ord(it)))
     return f"$'{''.join(parts)}'"
+
+
+def escape_of(code: int) -> str:
+    """Returns a character's escape for bash; of one that stands for a byte of a path, that byte."""
+    if 0xdc80 <= code <= 0xdcff:
+        return f"\\x{code - 0xdc00:02x}"
+    return (f"\\U{code:08x}" if code > 0xffff
+            else f"\\u{code:04x}" if code > 0x7f else f"\\x{code:02x}")
+
+
+def dated(seconds: Optional[int]) -> str:
+    """Returns a time in seconds since 1970 as a date, with the offset of this machine's zone."""
+    return ("at a time that is not known" if seconds is None
+            else time.strftime("%Y-%m-%d %H:%M:%S %z", time.localtime(seconds)))

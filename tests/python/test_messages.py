@@ -3,9 +3,11 @@
 import errno
 import pathlib
 import unittest
+from unittest import mock
 
 import package  # noqa: F401
 
+from amo_jobs import messages
 from amo_jobs.messages import REMEDIES, End, lowered, reason, refused, visible
 from amo_jobs.statuses import Status
 
@@ -28,6 +30,18 @@ class Texts(unittest.TestCase):
         end = refused("list `\n`: no")
         self.assertIsInstance(end, End)
         self.assertEqual((end.status, end.text), (Status.REFUSED, "list `\\n`: no"))
+
+
+class Confirmations(unittest.TestCase):
+    def test_what_nobody_reads_is_said_to_be_recorded(self):
+        gone = BrokenPipeError(errno.EPIPE, "Broken pipe")
+        with mock.patch.object(messages, "print", side_effect=gone, create=True), \
+                mock.patch.object(messages, "drop_output") as dropped:
+            with self.assertRaises(End) as raised:
+                messages.confirm("recorded")
+        dropped.assert_called_once_with()
+        self.assertEqual(raised.exception.status, Status.WRITE)
+        self.assertIn("broken pipe; all was recorded before that", raised.exception.text)
 
 
 class Reasons(unittest.TestCase):

@@ -152,6 +152,35 @@ class Reports(unittest.TestCase):
         self.assertIn("no end is recorded", text)
         self.assertEqual(len(seen.commands), 2 + 1 + 2 + 2 + 1)
 
+    def test_what_a_person_answered_is_listed(self):
+        rows = [[1, 1, 1, NOW - 90, "done", 0, NOW - 80, "done"],
+                [1, 2, 2, NOW - 80, "doubt", None, NOW - 70, "done"],
+                [1, 3, 3, NOW - 70, "doubt", None, NOW - 60, "open"],
+                [2, 1, 4, NOW - 90, "done", 1, NOW - 80, "failed"],
+                [2, 2, 5, NOW - 80, "done", 1, NOW - 70, "done"],
+                [2, 3, 6, NOW - 70, "untouched", 75, NOW - 60, "open"],
+                [3, 1, 7, NOW - 70, "unbegun", None, NOW - 70, "open"],
+                [3, 2, 8, NOW - 70, "untouched", 75, NOW - 60, "untouched"],
+                [3, 3, 9, NOW - 60, "pending", None, None, "pending"]]
+        found, text, seen = self.page(rows, list("abcdefghi"))
+        self.assertEqual([(it["line"], it["answer"]) for it in found["answered"]],
+                         [(2, "done"), (3, "not-done"), (5, "done"), (6, "not-done")])
+        part = text[text.index('<section id="answered">'):text.index('<section id="timeline">')]
+        self.assertEqual(re.findall("done, as answered|opened again|not started", part),
+                         ["done, as answered", "opened again"] * 2)
+        slowest = text[text.index('<section id="slowest">'):text.index('<section id="histogram">')]
+        self.assertEqual(slowest.count("not started"), 1)
+        self.assertNotIn(">open<", slowest)
+        self.assertNotIn("Nobody has answered.", text)
+
+    def test_a_long_list_of_answers_is_cut_and_the_page_says_so(self):
+        count = facts.MOST_ROWS + 7
+        rows = [[1, k, k, NOW - 90, "doubt", None, NOW - 60, "done"] for k in range(1, count + 1)]
+        found, text, _ = self.page(rows, [str(k) for k in range(count)])
+        self.assertEqual(len(found["answered"]), facts.MOST_ROWS)
+        self.assertEqual([it for it in found["left_out"] if "answered" in it],
+                         [f"7 more answered, after the first {facts.MOST_ROWS}"])
+
     def test_many_attempts_are_put_together_and_the_page_says_so(self):
         for count, is_put in ((facts.MOST_ROWS, False), (6000, True)):
             rows = [[1 + k % 4, 1 + k // 4, k + 1, NOW - count + k, "done", 1, NOW - count + k,
@@ -235,6 +264,15 @@ class Snapshots(unittest.TestCase):
     def test_a_word_for_bash_has_no_character_that_cant_be_seen(self):
         self.assertEqual(texts.quoted("a b"), "'a b'")
         self.assertEqual(texts.quoted("a\tb'\u202e\U000e0001"), "$'a\\x09b\\'\\u202e\\U000e0001'")
+
+    def test_bash_reads_the_word_as_it_is(self):
+        for word in ("it's", "$(touch x) `y`; !z | w", "\\", "a\tb\x1b\x7f", "\u202e9", "\U000e0001",
+                     os.fsdecode(b"/a\xff0/\xc3\xa9")):
+            script = f"printf %s {texts.quoted(word)}"
+            self.assertTrue(script.isprintable(), script)
+            ran = subprocess.run(["bash", "-c", script], stdout=subprocess.PIPE, check=True,
+                                 env={"LC_ALL": "C.UTF-8"})
+            self.assertEqual(os.fsdecode(ran.stdout), word)
 
     def test_a_line_is_found_by_its_number_while_the_list_grows(self):
         with tempfile.TemporaryDirectory() as run:

@@ -1,6 +1,7 @@
 """How lines are counted and listed, and how old a doubt is."""
 
 import itertools
+import os
 import subprocess
 import tempfile
 import time
@@ -11,6 +12,7 @@ from package import until
 
 from amo_jobs import calls, processes, status
 from amo_jobs.statuses import KINDS, Status
+from amo_watch import texts
 
 NONE = dict.fromkeys(KINDS, 0)
 
@@ -125,19 +127,40 @@ class Ages(unittest.TestCase):
                 (90000, "1 d 1 h"), (100 * 86400 + 59, "100 d")]:
             self.assertEqual(status.lasting(seconds), wanted)
 
+    def test_a_time_has_the_offset_of_its_zone(self):
+        self.addCleanup(time.tzset)
+        with mock.patch.dict(os.environ, {"TZ": "XST-5:30"}):
+            time.tzset()
+            self.assertEqual(status.dated(0), "1970-01-01 05:30:00 +0530")
+        self.assertEqual(status.dated(None), "at a time that is not known")
+
     def test_an_age_may_be_unknown_or_ahead_of_the_clock(self):
+        self.assertEqual(status.how_old({"ended": None, "age": None}),
+                         "ended at a time that is not known")
         with mock.patch.object(status, "dated", lambda it: f"DATE{it}"):
-            self.assertEqual(status.how_old({"ended": None, "age": None}),
-                             "ended at a time that is not known")
             self.assertEqual(status.how_old({"ended": 9, "age": None}),
                              "ended DATE9, which is ahead of the clock")
             self.assertEqual(status.how_old({"ended": 9, "age": 3725}),
                              "ended DATE9, 1 h 2 min ago")
 
+    def test_the_printed_command_finds_what_a_command_has_left(self):
+        with subprocess.Popen(["sleep", "60"], env={"AMO_JOB": "rent"}) as left, \
+                subprocess.Popen(["sleep", "60"], env={"NOT_AMO_JOB": "rent"}) as other:
+            try:
+                until(lambda: calls.words_of(left.pid) and calls.words_of(other.pid))
+                script = status.LOOK.splitlines()[1]
+                ran = subprocess.run(["bash", "-c", script], stdout=subprocess.PIPE, text=True)
+                found = [it.split() for it in ran.stdout.splitlines()]
+                self.assertIn([str(left.pid), "sleep", "60"], found)
+                self.assertNotIn([str(other.pid), "sleep", "60"], found)
+            finally:
+                left.kill()
+                other.kill()
+
     def test_the_end_of_an_output_is_shown_line_by_line(self):
         with tempfile.TemporaryDirectory() as room:
             path = f"{room}/out.1.2"
-            self.assertEqual(status.end_of(path), "")
+            self.assertEqual(texts.outputs_of([room], "1.2"), [])
             for data, wanted in [
                     (b"", ""), (b"a\n\x1b[2J\n", f"  {path}, 7 bytes:\n    | a\n    | \\x1b[2J\n"),
                     (b"1\n2\n3\n4\n5\n6\n7", f"  {path}, 13 bytes:\n    | 3\n    | 4\n    | 5\n"
@@ -145,7 +168,8 @@ class Ages(unittest.TestCase):
                     (b"y" * 3000, f"  {path}, 3000 bytes:\n    | {'y' * 1000}\n")]:
                 with open(path, "wb") as file:
                     file.write(data)
-                self.assertEqual(status.end_of(path), wanted)
+                found = map(status.shown, texts.outputs_of([room], "1.2"))
+                self.assertEqual("".join(found), wanted)
 
 
 if __name__ == "__main__":

@@ -3,6 +3,7 @@
 import argparse
 import contextlib
 import io
+import shlex
 import unittest
 from unittest import mock
 
@@ -151,6 +152,23 @@ class Parsed(unittest.TestCase):
         found = cli.settings_of(["answer", "--run", "/r", "--", "1.2", "3", "--now", "done"])
         self.assertEqual((found.asked, found.mark, found.run, found.words, found.now),
                          ("", "", "/r", ["1.2", "3", "--now", "done"], False))
+
+    def test_each_example_of_the_help_is_taken(self):
+        for name, (_, *examples) in cli.ABOUT.items():
+            for it in examples:
+                words = shlex.split(it.partition(" > ")[0])
+                self.assertEqual(cli.settings_of(words).what, name)
+        # an option after the list, as the usage had it, is refused
+        with contextlib.redirect_stderr(io.StringIO()), self.assertRaises(SystemExit):
+            cli.settings_of(["answer", "/l", "--now", "1.2", "3", "text", "done"])
+
+    def test_the_usage_of_an_answer_is_taken(self):
+        usage = next(it for it in cli.__doc__.splitlines() if "amo_jobs answer" in it)
+        words = usage.replace("[--quiet SECONDS | --now]", "--quiet 9")
+        words = words.replace("[--run DIR | JOBS]", "/l").replace("ANSWER", "not-done").split()
+        found = cli.settings_of(words[1:])
+        self.assertEqual((found.quiet, found.asked, found.words),
+                         (9, "/l", ["P.S", "LINE", "TEXT", "not-done"]))
 
     def test_an_unknown_command_is_a_usage_error(self):
         with contextlib.redirect_stderr(io.StringIO()):

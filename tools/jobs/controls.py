@@ -124,6 +124,15 @@ IDENTITY = [
         '            rename(self.settings.jobs, self.list)\n',
     ], forgetting.try_forget_killed, TWICE),
 ]
+# Mistakes in the lines that a person copies from `doubts`.
+COPIED = [
+    ("two_answers_in_a_line", ["{next_command(settings, *words, verdict)}", "{next_command(settings, *words)} done|not-done"],
+     ways.try_pasted, "isn't one whole answer"),
+    ("words_as_they_are", [
+        'return " ".join(map(quoted, [sys.argv[0], what, *settings.names, *words]))',
+        'return " ".join([sys.argv[0], what, *settings.names, *words])'],
+     ways.try_pasted, "runs something else"),
+]
 
 
 def of_the_worker(mistake, test, wanted, name=None):
@@ -157,7 +166,8 @@ def shown(bench, name, test, wanted):
 ALL = [[of_the_worker(*it) for it in OF_THE_WORKER], [of_the_runner(*it) for it in OF_THE_RUNNER]]
 OF_IDENTITY = [*[of_the_worker(*it) for it in MISSING], *[of_the_runner(*it) for it in IDENTITY]]
 OF_SPOILED = [of_the_worker(*it) for it in SPOILED]
+OF_COPIED = [of_the_runner(*it) for it in COPIED]
 LIMITED = [of_the_runner(*it) for it in OF_FAULTS]
 # those of the short form
-SHORT = [*ALL[0][:2], *ALL[1][:3], *OF_IDENTITY, *OF_SPOILED]
+SHORT = [*ALL[0][:2], *ALL[1][:3], *OF_IDENTITY, *OF_SPOILED, *OF_COPIED]
 PARTS = {"controls": [*SHORT, *ALL[0][2:], *ALL[1][3:], *LIMITED]}

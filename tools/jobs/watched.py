@@ -160,6 +160,9 @@ def compare_journals(scene, page, line):
         want((row[2], row[4]) == (it.line, it.answer or "pending"), f"{row}, {vars(it)}")
     for name, state in (("doubts", "doubt"), ("failures", "failed"), ("pending", "pending")):
         want(len(page[name]) == line[state], f"{name}: {len(page[name])}, {line[state]}")
+    answers = {it.name(): it.found for it in journal if it.found}
+    listed = {it["attempt"]: it["answer"] for it in page["answered"]}
+    want(listed == answers, f"answered: {listed} in place of {answers}")
 
 
 def try_counts(bench):

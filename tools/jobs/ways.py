@@ -184,7 +184,7 @@ def try_ages(bench):
     """doubts says how long ago each attempt ended, for people and as JSON"""
     scene = sent(bench)
     told = scene.call("doubts")
-    want(re.search(r"^  started [-0-9: ]{19} by worker 1, ended [-0-9: ]{19}, \d+ (s|min|h)( \d+ s)? ago$", told, re.M), told)
+    want(re.search(r"^  started [-0-9: ]{19} [-+]\d{4} by worker 1, ended [-0-9: ]{19} [-+]\d{4}, \d+ (s|min|h)( \d+ s)? ago$", told, re.M), told)
     found, = json.loads(scene.call("doubts", "--json"))
     recorded, = [it.ended for it in scene.look().intents.values()]
     want(found["ended"] == recorded and found["age"] >= 0, f"{found}, recorded at {recorded}")
@@ -238,11 +238,50 @@ def try_look(bench):
         line = crew.stderr.rpartition("; see the doubts: ")[2].splitlines()[:1]
         want(line == [wanted] and crew.returncode == DOUBTFUL, f"{line} in place of {wanted}")
         told = subprocess.run(["sh", "-c", wanted], **how).stdout
-        answers = re.findall(r"^  (.* answer .*) done\|not-done$", told, re.M)
+        answers = re.findall(r"^    .* answer .* done$", told, re.M)
         want(len(answers) == 2, f"two doubts have two answers: {told}")
         for it in answers:
-            ran = subprocess.run(["sh", "-c", f"{it} done"], **how)
+            ran = subprocess.run(["sh", "-c", it], **how)
             want((ran.stdout, ran.returncode) == ("recorded\n", DONE), f"{it}: {ran.stderr}")
+
+
+HOSTILE = ["$(touch broken)", "INV-2 rent 700 to Ada", "it's \"2\"", "`touch broken`; touch broken | touch broken", "-rf",
+           "a\ttab and \x1b[31m", "!touch > broken", "# none", "done", "not-done"]
+
+
+def try_pasted(bench):
+    """a line that `doubts` prints for an answer, pasted into bash, records that answer of that
+    line; nothing else is recorded or run"""
+    scene = bench.scene([], 1, [])
+    with open(scene.jobs, "w") as file:
+        file.write("".join(f"{text}\n" for text in HOSTILE))
+    scene.ends(scene.start(command=["sh", "-c", "kill -9 $$", "sh"]), DOUBTFUL)
+    age_doubts(scene, "journal.1")
+    lines = [it for it in scene.call("doubts").splitlines() if " answer " in it]
+    want(len(lines) == 2 * len(HOSTILE), f"{len(HOSTILE)} doubts have {len(lines)} lines to paste")
+    wanted = ["doubt"] * len(HOSTILE)
+    for place in range(len(HOSTILE)):
+        is_done = place % 2 == 0
+        paste(scene, lines[2 * place + (0 if is_done else 1)])
+        wanted[place] = "done" if is_done else "open"
+        want(kinds_of(scene) == wanted, f"not that answer alone: {kinds_of(scene)} in place of {wanted}")
+
+
+def age_doubts(scene, name):
+    """Has the doubts of a journal recorded 1000 seconds ago, so that `not-done` needn't wait."""
+    old = [re.sub(rb"doubt (\d+) (\d+)", lambda it: b"doubt %s %d" % (it[1], int(it[2]) - 1000), record)
+           for record in folder.records_in(scene.run, name)]
+    folder.put(f"{scene.run}/{name}", journals.journal(folder.id_of(scene.run), name, old))
+
+
+def paste(scene, line):
+    """Pastes a line into an interactive bash, in a folder of its own that has to stay empty."""
+    room = f"{scene.room}/pasted"
+    os.makedirs(room, exist_ok=True)
+    ran = subprocess.run(["bash", "--norc", "--noprofile", "-i"], input=f"{line}\n", text=True, cwd=room, timeout=240,
+                         capture_output=True, env={**scene.environment(), "HISTFILE": "/dev/null", "PS1": ""})
+    want(not os.listdir(room), f"the line runs something else: {line}: {os.listdir(room)}")
+    want((ran.stdout, ran.returncode) == ("recorded\n", DONE), f"the line isn't one whole answer: {line}: {ran.stderr[-500:]}")
 
 
 # A row has the words of a call that fails, with ROOM for the scene's folder, its status, and the
@@ -610,7 +649,7 @@ def fill(scene, disk):
 
 
 PARTS = {"ways": [
-    try_ends, try_arguments, try_refusals, try_lists, try_answers, try_late_request, try_late_request_now, try_ages, try_status, try_look,
+    try_ends, try_arguments, try_refusals, try_lists, try_answers, try_late_request, try_late_request_now, try_ages, try_status, try_look, try_pasted,
     try_messages, try_boot_id, try_timeout, try_last_net, try_leftovers,
     try_first_signal, try_second_signal, try_halt, try_one_runner, try_work, try_outputs, try_streams, try_many_messages, try_growing, try_killed_in_turn,
     try_disk_full,

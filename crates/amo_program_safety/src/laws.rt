@@ -35,10 +35,10 @@ pub fn programs_and_commands_perform_each_line_at_most_once()
     lines_are_performed_once_by_journals_alone();
 }
 
-/// States that each text is performed at most once, and that the text that a runner gets is that of
-/// its line. We assume that all reads of the lines that a run knows give lines of one list, in which
-/// no two lines are equal. The rules of `Runs` and `Steps` are assumed too. They have line numbers
-/// alone.
+/// States that each text is performed at most once, and that a runner gets the text of its line. We
+/// assume that all reads of the lines that a run knows give lines of one list, and that no two
+/// lines of the list are equal. The rules of `Runs` and `Steps` are assumed too. They have line
+/// numbers alone.
 pub fn programs_and_commands_perform_each_text_at_most_once()
     ensures handed { (list : List (List ℕ)) (steps more : List Step) (process serial line : ℕ) (text : List ℕ) → HasFewLines list
         → IsRunOfAll (steps ++ Happens (HandsOver process serial line text) ∷ more)
