@@ -56,7 +56,7 @@ from amo_jobs.mark import FIRST_VERSION, ID
 from amo_jobs.messages import End, end_of, Screen, visible
 from amo_jobs.run_folder import check_list, enter, joined, note_command
 from amo_jobs.settings import Settings
-from amo_jobs.status import again, answer, doubts, status
+from amo_jobs.status import ANSWERS, again, answer, doubts, status
 from amo_jobs.statuses import Status
 from amo_jobs.worker import Program, boot_id_warning, version
 from amo_watch import commands as watching
@@ -287,7 +287,7 @@ def refuse_words(settings: Settings, left: List[str]) -> None:
     example = f"amo_jobs {ABOUT[what][1]}"
     if left:
         remedy = f"give the command after --, as in: {example}" if is_run else (
-            f"see amo_jobs {what} --help")
+            "give options before --" if left[0][:1] == "-" else f"see amo_jobs {what} --help")
         raise End(Status.WORDS,
                   f"argument `{visible(left[0])}`: `{what}` doesn't take it; {remedy}")
     if not settings.jobs and (is_run or what == "forget"):
@@ -308,6 +308,9 @@ def refuse_answer(words: List[str]) -> None:
     if len(words) != 4:
         raise End(Status.WORDS, "`answer`: an argument is missing; give P.S LINE TEXT and done or"
                                 " not-done, or --from FILE")
+    if words[3] not in ANSWERS:
+        raise End(Status.WORDS, f"answer `{visible(words[3])}`: it isn't done or not-done; give one"
+                                " of these last, and options before --")
     if "\n" in words[2]:
         raise End(Status.WORDS, f"text `{visible(words[2])}`: no line holds a line feed; give the"
                                 " text of one line, as `amo_jobs doubts` prints it")

@@ -25,7 +25,7 @@ from amo_watch.texts import dated, Output, outputs_of
 # Each answer that the operator may give, with the text above its command.
 ANSWERS = {"done": "If it happened:", "not-done": "If it surely did not happen:"}
 # Printed below all doubts: no lock shows these processes.
-LOOK = ("If a runner was killed, list the processes that its commands have left, before an answer:\n"
+LOOK = ("If a runner was killed, list the processes that its commands left, before an answer:\n"
         "  grep -lsz ^AMO_JOB= /proc/[0-9]*/environ | cut -d/ -f3 | xargs -rn1 ps -o pid=,args= -p")
 NO_PROCESS = "its worker is alive, or a process of another user"
 

@@ -130,7 +130,8 @@ def row_of(run: Run, now: int, it: Attempt, texts: Dict[int, str], budget: Budge
     outputs = budget.outputs(outputs_of(run.folders(), it.name)) if is_whole else []
     return {"attempt": it.name, "line": it.line, "text": shown, "cut": len(text) - len(shown),
             "begun": it.begun, "ended": it.ended, "age": age, "seconds": it.seconds,
-            "code": it.code, "state": it.state, "answer": it.answer, "outputs": [row._asdict() for row in outputs],
+            "code": it.code, "state": it.state, "answer": it.answer,
+            "outputs": [row._asdict() for row in outputs],
             "commands": commands if shown == text or it.state == "pending" else []}
 
 

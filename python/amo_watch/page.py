@@ -69,8 +69,8 @@ def head(facts: Dict[str, Any], name: str) -> Iterator[str]:
         yield f"<div><dt class=\"{kind}\">{WORDS[kind]}</dt><dd>{count}</dd></div>"
     yield f"</dl><p>{shown(pace_text(facts))}</p>"
     parts = [("doubts", "In doubt"), ("failures", "Failed"), ("untouched", "Untouched"),
-             ("answered", "Answered"), ("timeline", "Timeline"), ("slowest", "Slowest lines"), ("histogram", "Durations"),
-             ("given", "Settings of the run")]
+             ("answered", "Answered"), ("timeline", "Timeline"), ("slowest", "Slowest lines"),
+             ("histogram", "Durations"), ("given", "Settings of the run")]
     links = "".join(f"<li><a href=\"#{it}\">{text}</a></li>" for it, text in parts)
     yield f"<nav aria-label=\"Parts\"><ul>{links}</ul></nav><p class=\"tools\" id=\"tools\"></p>"
     yield f"{left_out(facts)}</header>"

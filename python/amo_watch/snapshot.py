@@ -20,8 +20,7 @@ FORMAT = 1  # of the lines
 COUNTS = ("done", "failed", "doubt", "pending", "untouched", "open")
 
 # The state of an outcome that nobody answered; `done` with a code above 0 is failed.
-OWN = {"pending": "pending", "done": "done", "doubt": "doubt", "unbegun": "open",
-       "untouched": "untouched"}
+OWN = {**{it: it for it in COUNTS}, "unbegun": "open"}
 
 
 class Attempt(NamedTuple):

@@ -266,8 +266,8 @@ class Snapshots(unittest.TestCase):
         self.assertEqual(texts.quoted("a\tb'\u202e\U000e0001"), "$'a\\x09b\\'\\u202e\\U000e0001'")
 
     def test_bash_reads_the_word_as_it_is(self):
-        for word in ("it's", "$(touch x) `y`; !z | w", "\\", "a\tb\x1b\x7f", "\u202e9", "\U000e0001",
-                     os.fsdecode(b"/a\xff0/\xc3\xa9")):
+        for word in ("it's", "$(touch x) `y`; !z | w", "\\", "a\tb\x1b\x7f", "\u202e9",
+                     "\U000e0001", os.fsdecode(b"/a\xff0/\xc3\xa9")):
             script = f"printf %s {texts.quoted(word)}"
             self.assertTrue(script.isprintable(), script)
             ran = subprocess.run(["bash", "-c", script], stdout=subprocess.PIPE, check=True,

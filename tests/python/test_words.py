@@ -87,6 +87,8 @@ class Words(unittest.TestCase):
     def test_a_further_word_is_refused_with_its_remedy(self):
         self.assertEqual(self.refused("status", ["two"], jobs="one"),
                          "argument `two`: `status` doesn't take it; see amo_jobs status --help")
+        self.assertEqual(self.refused("answer", ["--now"], jobs="one"),
+                         "argument `--now`: `answer` doesn't take it; give options before --")
         self.assertIn("give the command after --, as in: amo_jobs crew",
                       self.refused("crew", ["pay"], jobs="one"))
 
@@ -109,6 +111,12 @@ class Words(unittest.TestCase):
         self.assertIsNone(self.refused("answer", jobs="list", source="file"))
         for words in (four[:3], []):
             self.assertIn("or --from FILE", self.refused("answer", jobs="list", words=words))
+
+    def test_the_answer_stands_last(self):
+        self.assertEqual(
+            self.refused("answer", run="/run", words=["3", "text", "not-done", "--now"]),
+            "answer `--now`: it isn't done or not-done; give one of these last, and options before"
+            " --")
 
     def test_the_text_of_an_answer_is_one_line(self):
         words = ["1.2", "3", "a\nb", "done"]
