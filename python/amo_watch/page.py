@@ -106,8 +106,8 @@ def doubts(facts: Dict[str, Any]) -> Iterator[str]:
     if not facts["doubts"] and not facts["pending"]:
         yield "<p>No line is in doubt, and none is running.</p>"
     if facts["doubts"]:
-        yield ("<p>Each of these lines may have been performed, and nothing of its command runs on"
-               " this machine any more. Find out at the receiver whether it happened. Then give one"
+        yield ("<p>Each of these lines may have been performed, and no process has the lock of its"
+               " command any more. Find out at the receiver whether it happened. Then give one"
                " of the two commands. <strong>Don't answer not-done while a request may still be on"
                " its way</strong>: the line would be performed twice.</p>")
     yield from map(article, facts["doubts"])
