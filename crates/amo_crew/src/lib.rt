@@ -14,8 +14,11 @@
 //! # A proved caller
 //!
 //! The contract of `double_all` states that no job has two answers, and that each job has a place.
-//! To use a theorem, call it before `execute`: the prover then has its clauses for the outcome. If
-//! you leave out the call of `each_job_is_answered_once`, the prover rejects the clause `once`.
+//! To use a theorem of the module `laws`, call it before `execute`: the prover then has its clauses
+//! for the outcome of `Ok`. If you leave out the call of `each_job_is_answered_once`, the prover
+//! rejects the clause `once`. The outcomes of `ThreadRefused` and of `settle` after `Unsettled` need
+//! an answer each in a file of proofs, by `Refuses` or `settled_later`. The field `run.outputs_are`
+//! of `IsOutcome` states that each answer is right for its payload.
 //! The prover accepted this file without a file of proofs (`rattle check`, 2026-11-30). Its crate
 //! stands on `amo_crew`, `amo_mailbox`, `amo_claims`, `amo_words`, `amo_givens` and `amo_sets`.
 //!
