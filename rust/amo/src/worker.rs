@@ -59,7 +59,8 @@ pub struct Worker<'a, R: Registers> {
 pub enum Step<'w, 'a, R: Registers> {
     /// Perform this job, and then call [`Job::done`].
     Perform(Job<'w, 'a, R>),
-    /// Find out what became of this job, and never perform it. The next step records it as done.
+    /// Find out what became of this job, and never perform it. **Write it to a disk before the next
+    /// step**, which records it as done: afterwards nothing shows the doubt.
     Doubt(Doubt),
     /// The worker has ended.
     Over,
