@@ -93,7 +93,7 @@ pub enum Step<'w, 'a, R: Registers> {
 #[must_use = "a job that is dropped is in doubt"]
 pub struct Job<'w, 'a, R: Registers> {
     worker: &'w mut Worker<'a, R>,
-    heard: Vec<u64>, // the worker's list, which it lacks meanwhile
+    heard: Vec<u64>,  // the worker's list, which it lacks meanwhile
     items: Vec<Item>, // the accesses that follow, of which the first records the job
     number: u32,
 }
