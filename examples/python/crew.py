@@ -5,9 +5,9 @@ writing a line.
   crew.py FILE JOBS WORKERS P
 
 All processes of a run are given the same FILE, JOBS and WORKERS. FILE is made if it is missing; put
-it into /dev/shm, since it has to outlive the processes. If a process has died, start another one
-with its number: it waits until the earlier one is gone. examples/c/crew.c does the same, and may
-share the file.
+it on a local disk, and keep the files beside it: FILE.boot and a lock for each worker. If a process
+has died, start another one with its number: it waits until the earlier one is gone.
+examples/c/crew.c does the same, and may share the file.
 """
 
 import os

@@ -2,7 +2,7 @@
 
     import amo
 
-    registers = amo.File("/dev/shm/tonight", workers=3, jobs=100)
+    registers = amo.File("tonight.words", workers=3, jobs=100)
     with amo.Worker(registers, number=1, workers=3, jobs=100) as worker:
         for job in worker.doubts:
             print("find out what became of", job)

@@ -179,19 +179,19 @@ class File(Words):
     >>> registers.load(1)
     0
 
-    Choose a file in memory, such as one in /dev/shm. Each worker has a lock on a file beside it,
-    `PATH.NUMBER`. Don't remove these files while a worker lives. A program in C or Rust may share
-    the file: examples/c/crew.c does.
+    Choose a file on a local disk. Each worker has a lock on a file beside it, `PATH.NUMBER`, and
+    `PATH.boot` has the boot of the machine. **Keep these files together**: without them every job
+    is handed out again. Remove all of them once no worker lives and no job is to come. A program in
+    C or Rust may share the file: examples/c/crew.c does.
 
-    **Once the machine was started anew, the file is lost.** On a disk it may lack stores, so it is
-    refused then: `PATH.boot` has the boot that it belongs to. Begin no new registers over the same
-    jobs, unless a journal of yours shows which jobs were begun: otherwise each may be performed
-    again.
+    Once the machine was started anew, the file may lack stores, so it is refused. It is refused too
+    if it is missing or empty and `PATH.boot` is there. A file in /dev/shm is lost with `PATH.boot`,
+    so new registers are made there, and every job is handed out again.
     """
 
     def __init__(self, path: Union[str, "os.PathLike[str]"], workers: int, jobs: int):
-        """Raises ValueError if the file belongs to a run with other numbers, or to an earlier boot
-        of the machine; and OSError."""
+        """Raises ValueError if the file belongs to a run with other numbers or to an earlier boot
+        of the machine, or if its registers are gone; and OSError."""
         self._path, length = str(os.fspath(path)), size(workers, jobs)
         file = os.open(self._path, os.O_RDWR | os.O_CREAT | os.O_CLOEXEC, 0o600)
         try:
@@ -205,8 +205,7 @@ class File(Words):
     def _make_or_check(self, file: int, length: int) -> None:
         """Makes the registers of an empty file, or checks those of another one."""
         if os.fstat(file).st_size == 0:
-            with open(f"{self._path}.boot", "w", encoding="ascii") as note:
-                note.write(boot())
+            note_boot(f"{self._path}.boot")
             os.truncate(file, length)
         if os.fstat(file).st_size != length:
             raise ValueError(f"`{self._path}`: it has {os.fstat(file).st_size} bytes, and the"
@@ -225,6 +224,21 @@ def boot() -> str:
     """Returns the id of this boot of the machine."""
     with open("/proc/sys/kernel/random/boot_id", encoding="ascii") as file:
         return file.read()
+
+
+def note_boot(path: str) -> None:
+    """Makes the file that names this boot, and has it on the disk when this returns. Raises
+    ValueError if it exists: then registers were made, and are gone."""
+    try:
+        with open(path, "x", encoding="ascii") as note:
+            note.write(boot())
+    except FileExistsError:
+        raise ValueError(f"`{path}`: it shows that registers were made, and they are gone; perform"
+                         " no job of them again, and use another path for other jobs") from None
+    for name in (path, os.path.dirname(os.path.abspath(path))):  # a folder has its files' names
+        file = os.open(name, os.O_RDONLY)
+        os.fsync(file)
+        os.close(file)
 
 
 def check_boot(path: str) -> None:

@@ -121,7 +121,7 @@ class Worker:
     def doubts(self) -> List[int]:
         """The jobs in doubt that this worker knows of: the one that an earlier process had in its
         hand, and those of loops that were left. Nobody performs them. Find out what became of
-        each."""
+        each. **Write them to a disk before a loop begins**: then only this object has them."""
         return list(self._doubts)
 
     def __iter__(self) -> Iterator[int]:

@@ -264,6 +264,16 @@ class Numbers(unittest.TestCase):
         with self.assertRaisesRegex(ValueError, "earlier boot"):
             amo.File(self.path, 1, 3)
 
+    def test_registers_that_are_gone_and_begin_anew(self) -> None:
+        self.assertEqual(list(alone(amo.File(self.path, 1, 3))), [1, 2, 3])
+        os.unlink(self.path)
+        for _ in range(2):  # the first call leaves an empty file
+            with self.assertRaisesRegex(ValueError, "they are gone"):
+                amo.File(self.path, 1, 3)
+        # a mistake: without the note the jobs are performed twice
+        os.unlink(f"{self.path}.boot")
+        self.assertEqual(list(alone(amo.File(self.path, 1, 3))), [1, 2, 3])
+
     def test_a_place_beyond_the_registers(self) -> None:
         registers = amo.File(self.path, 1, 3)
         for place in (-1, amo.size(1, 3) // 8):

@@ -41,7 +41,8 @@ fn job_of(value: u64) -> Result<u32, Fault> {
 
 /// A run: so many jobs, shared by so many workers over registers.
 ///
-/// All processes of the run give the same numbers.
+/// All processes of the run give the same numbers. **For a slice, make one crew**, and share it by
+/// reference: a second one over the same words sees no lock, so jobs are performed twice.
 ///
 /// # Examples
 ///

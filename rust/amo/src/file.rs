@@ -5,7 +5,7 @@ use crate::fault::Fault;
 use crate::registers::{Lock, Registers};
 use std::ffi::OsString;
 use std::fs::{self, File, OpenOptions};
-use std::io;
+use std::io::{self, Write};
 use std::os::unix::fs::OpenOptionsExt;
 use std::path::{Path, PathBuf};
 
@@ -14,14 +14,14 @@ const BOOT: &str = "/proc/sys/kernel/random/boot_id";
 
 /// Registers in a file that processes map into their memory.
 ///
-/// Choose a file in memory, such as one in /dev/shm. Each worker has a lock on a file beside it,
-/// `PATH.NUMBER`, which the kernel drops once the worker's process is gone. Don't remove these
-/// files while a worker lives. Programs in C and in Python may share the file.
+/// Choose a file on a local disk. Each worker has a lock on a file beside it, `PATH.NUMBER`, which
+/// the kernel drops once the worker's process is gone, and `PATH.boot` has the boot of the machine.
+/// **Keep these files together**: without them every job is handed out again. Remove all of them
+/// once no worker lives and no job is to come. Programs in C and in Python may share the file.
 ///
-/// **Once the machine was started anew, the file is lost.** On a disk it may lack stores, so it is
-/// refused then: `PATH.boot` has the boot that it belongs to. Begin no new registers over the same
-/// jobs, unless a journal of yours shows which jobs were begun: otherwise each may be performed
-/// again.
+/// Once the machine was started anew, the file may lack stores, so it is refused. It is refused too
+/// if it is missing or empty and `PATH.boot` is there. A file in /dev/shm is lost with `PATH.boot`,
+/// so new registers are made there, and every job is handed out again.
 ///
 /// # Examples
 ///
@@ -48,7 +48,7 @@ impl MappedFile {
     /// # Errors
     ///
     /// If a number breaks its limit, the file belongs to a run with other numbers or to an earlier
-    /// boot of the machine, or it can't be opened.
+    /// boot of the machine, its registers are gone, or it can't be opened.
     ///
     /// # Examples
     ///
@@ -61,7 +61,7 @@ impl MappedFile {
         let gate = opened(path.as_ref())?; // of its own, since a mapping keeps its file locked
         amo_sys::lock(&gate, true)?; // another process may make the file too
         if file.metadata()?.len() == 0 {
-            fs::write(&boot, fs::read(BOOT)?)?;
+            note_boot(&boot)?;
             file.set_len(8 * count as u64)?;
         }
         check_boot(&boot)?;
@@ -99,6 +99,30 @@ fn beside(path: &Path, ending: &str) -> PathBuf {
     found.push(".");
     found.push(ending);
     found.into()
+}
+
+/// Makes the file that names this boot, and has it on the disk when this returns. If it exists,
+/// registers were made, and are gone.
+fn note_boot(path: &Path) -> io::Result<()> {
+    let made = OpenOptions::new().write(true).create_new(true).open(path);
+    let mut file = made.map_err(|error| match error.kind() {
+        io::ErrorKind::AlreadyExists => gone(path),
+        _ => error,
+    })?;
+    file.write_all(&fs::read(BOOT)?)?;
+    file.sync_all()?;
+    // since otherwise a crash of the machine can lose the name of the file
+    let folder = path.parent().filter(|it| !it.as_os_str().is_empty());
+    File::open(folder.unwrap_or_else(|| Path::new(".")))?.sync_all()
+}
+
+fn gone(path: &Path) -> io::Error {
+    let text = format!(
+        "`{}`: it shows that registers were made, and they are gone; perform no job of them again, \
+         and use another path for other jobs",
+        path.display()
+    );
+    io::Error::new(io::ErrorKind::InvalidData, text)
 }
 
 /// Refuses a file that names another boot. A program in C makes none.

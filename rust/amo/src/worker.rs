@@ -38,6 +38,7 @@ pub struct Worker<'a, R: Registers> {
     crew: &'a Crew<R>,
     number: u32,
     heard: Vec<u64>, // the values that it has read since it began, and 0 for each store
+    next: Vec<Item>, // the accesses after the one that recorded the last job, until the next step
     has_reported: bool, // the doubt that it found as it began
     lock: Lock,
 }
@@ -59,7 +60,8 @@ pub struct Worker<'a, R: Registers> {
 pub enum Step<'w, 'a, R: Registers> {
     /// Perform this job, and then call [`Job::done`].
     Perform(Job<'w, 'a, R>),
-    /// Find out what became of this job, and never perform it. The next step records it as done.
+    /// Find out what became of this job, and never perform it. **Write it to a disk before the next
+    /// step**, which records it as done: afterwards nothing shows the doubt.
     Doubt(Doubt),
     /// The worker has ended.
     Over,
@@ -91,7 +93,8 @@ pub enum Step<'w, 'a, R: Registers> {
 #[must_use = "a job that is dropped is in doubt"]
 pub struct Job<'w, 'a, R: Registers> {
     worker: &'w mut Worker<'a, R>,
-    heard: Vec<u64>, // the worker's list, which it lacks meanwhile
+    heard: Vec<u64>,  // the worker's list, which it lacks meanwhile
+    items: Vec<Item>, // the accesses that follow, of which the first records the job
     number: u32,
 }
 
@@ -133,6 +136,7 @@ impl<'a, R: Registers> Worker<'a, R> {
             crew,
             number,
             heard: Vec::new(),
+            next: Vec::new(),
             has_reported: false,
             lock: Lock::default(),
         };
@@ -196,6 +200,9 @@ impl<'a, R: Registers> Worker<'a, R> {
     /// ```
     pub fn step(&mut self) -> Result<Step<'_, 'a, R>, Fault> {
         let mut items = [Item::default(); ALL_ITEMS];
+        for item in mem::take(&mut self.next) {
+            self.carry_out(&item)?;
+        }
         loop {
             let (next, count) = amo_sys::batch(
                 &self.crew.givens,
@@ -217,6 +224,7 @@ impl<'a, R: Registers> Worker<'a, R> {
                 return Ok(Step::Perform(Job {
                     worker: self,
                     heard,
+                    items: items[..count].to_vec(),
                     number: next.perform,
                 }));
             }
@@ -371,17 +379,12 @@ impl<R: Registers> Job<'_, '_, R> {
     /// }
     /// ```
     pub fn done(self) -> Result<(), Fault> {
-        let worker = self.worker;
+        let (worker, mut items) = (self.worker, self.items.into_iter());
         worker.heard = self.heard;
-        let next = amo_sys::next(&worker.crew.givens, worker.number.into(), &worker.heard);
-        let next = next.map_err(|code| {
-            worker.heard.clear();
-            Fault::of(code)
-        })?;
-        worker.carry_out(&Item {
-            access: next.access.into(),
-            word: next.word,
-            value: next.value,
-        })
+        if let Some(first) = items.next() {
+            worker.carry_out(&first)?;
+        }
+        worker.next = items.collect();
+        Ok(())
     }
 }

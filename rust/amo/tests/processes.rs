@@ -207,6 +207,36 @@ fn a_file_of_an_earlier_boot() {
 }
 
 #[test]
+fn registers_that_are_gone_and_begin_anew() {
+    let folder = env::temp_dir().join(format!("amo-gone.{}", process::id()));
+    fs::create_dir(&folder).expect("a folder");
+    let path = folder.join("words");
+    assert_eq!(all_performed(&path), [1, 2, 3]);
+    fs::remove_file(&path).expect("the file");
+    for _ in 0..2 {
+        // the first call leaves an empty file
+        let fault = MappedFile::open(&path, 1, 3).expect_err("the registers are gone");
+        assert!(fault.to_string().contains("they are gone"), "{fault}");
+    }
+    // a mistake: without the note the jobs are performed twice
+    fs::remove_file(folder.join("words.boot")).expect("the note");
+    assert_eq!(all_performed(&path), [1, 2, 3]);
+    fs::remove_dir_all(&folder).expect("the folder");
+}
+
+/// Returns the jobs that one worker performs over the registers in this file.
+fn all_performed(path: &Path) -> Vec<u32> {
+    let file = MappedFile::open(path, 1, 3).expect("a file");
+    let mut performed = Vec::new();
+    let crew = Crew::new(file, 1, 3).expect("a crew");
+    let mut worker = crew.worker(1).expect("nobody has this number");
+    worker
+        .run(|job| performed.push(job), |doubt| panic!("{doubt:?}"))
+        .expect("no fault");
+    performed
+}
+
+#[test]
 fn a_file_of_another_run() {
     let folder = env::temp_dir().join(format!("amo-other.{}", process::id()));
     fs::create_dir(&folder).expect("a folder");

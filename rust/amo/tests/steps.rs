@@ -152,3 +152,23 @@ fn performed_doubts_that_do_not_show() {
 fn forgotten_registers_that_do_not_show() {
     assert!(all_runs(Mistake::ForgetsRegisters).0 > 0);
 }
+
+#[test]
+fn a_next_job_that_is_claimed_as_one_is_recorded() {
+    let count = amo::words(1, 3).expect("valid numbers");
+    let words: Vec<AtomicU64> = (0..count).map(|_| AtomicU64::new(0)).collect();
+    let crew = Crew::new(&words[..], 1, 3).expect("a crew");
+    let mut worker = crew.worker(1).expect("nobody has this number");
+    match worker.step().expect("no fault") {
+        Step::Perform(job) => job.done().expect("no fault"),
+        step => panic!("{step:?}"),
+    }
+    drop(worker);
+    let standing = crew.standing().expect("no fault");
+    assert_eq!((standing.recorded, standing.in_hand), (vec![1], vec![]));
+    // a mistake: a worker that takes one more step has claimed job 2
+    let mut worker = crew.worker(1).expect("nobody has this number");
+    assert!(matches!(worker.step(), Ok(Step::Perform(job)) if job.number() == 2));
+    drop(worker);
+    assert_eq!(crew.standing().expect("no fault").in_hand, [2]);
+}
