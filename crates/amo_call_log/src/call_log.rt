@@ -3,7 +3,7 @@
 //! [`CallLog::begin`]. docs/dev/tests.md explains the lines.
 use crate::end::End;
 use amo_host::{Failed, LogFile};
-use amo_run_dir::Fault;
+use amo_run_faults::Fault;
 use amo_run_log::{Entry, Fault as Misread, Finding, Resolution, read_attempts};
 use hex::encode;
 use sha2::{Digest, Sha256};
@@ -35,7 +35,7 @@ pub struct CallLog {
 
 /// The words of a line after the name of the call.
 #[derive(Clone, Copy)]
-pub(crate) enum Words<'a> {
+pub enum Words<'a> {
     /// Nothing: the call was made.
     Nothing,
     /// The call has failed.
@@ -83,7 +83,7 @@ impl CallLog {
     ///
     /// # Errors
     /// `Failed` if the line can't be written, or if an earlier one couldn't be. `failure` says why.
-    pub(crate) fn note(&mut self, side: &str, call: &str, words: Words<'_>) -> Result<(), Failed> {
+    pub fn note(&mut self, side: &str, call: &str, words: Words<'_>) -> Result<(), Failed> {
         if self.failure.is_some() {
             return Err(Failed);
         }
@@ -96,8 +96,8 @@ impl CallLog {
         }
     }
 
-    /// Returns why a line could not be written, if one couldn't be.
-    pub(crate) fn take_failure(&mut self) -> Option<End> {
+    /// Returns why a line could not be written, if one couldn't be, and forgets it.
+    pub fn take_failure(&mut self) -> Option<End> {
         self.failure.take()
     }
 
@@ -116,7 +116,7 @@ impl CallLog {
 }
 
 /// Returns the words of a call that has ended.
-pub(crate) fn ended<'a, T>(done: &Result<T, Failed>) -> Words<'a> {
+pub fn ended<'a, T>(done: &Result<T, Failed>) -> Words<'a> {
     match done {
         Ok(_) => Words::Nothing,
         Err(_) => Words::Failed,
@@ -124,7 +124,7 @@ pub(crate) fn ended<'a, T>(done: &Result<T, Failed>) -> Words<'a> {
 }
 
 /// Returns the words of a journal that was recovered.
-pub(crate) fn recovered<'a>(appends: &'a Result<Vec<Vec<u8>>, Failed>) -> Words<'a> {
+pub fn recovered<'a>(appends: &'a Result<Vec<Vec<u8>>, Failed>) -> Words<'a> {
     match appends {
         Ok(appends) => Words::Attempts(appends),
         Err(_) => Words::Failed,
@@ -132,7 +132,7 @@ pub(crate) fn recovered<'a>(appends: &'a Result<Vec<Vec<u8>>, Failed>) -> Words<
 }
 
 /// Returns the words of the runner's reply.
-pub(crate) fn heard<'a>(reply: &'a Result<Option<Vec<u8>>, Failed>) -> Words<'a> {
+pub fn heard<'a>(reply: &'a Result<Option<Vec<u8>>, Failed>) -> Words<'a> {
     match reply {
         Ok(Some(line)) => Words::Text(line),
         Ok(None) => Words::NoReply,

@@ -1,5 +1,5 @@
 //! The ends of a command before its work is done.
-use amo_run_dir::Fault;
+use amo_run_faults::Fault;
 use std::alloc::AllocError;
 use std::io;
 

@@ -23,6 +23,19 @@ use std::alloc::Global;
 /// carried out anew. A worker that begins has its number before it records the outcomes of its
 /// earlier attempts, so such an attempt may be over soon.
 ///
+/// The protocol states these rules, and the call keeps them, wherever the process is killed:
+///
+/// - Nothing is recovered before the folder was checked, and the header, the answers, all journals
+///   and the lines were read. None of them may be damaged.
+/// - A journal is recovered under its lock and that of its runner, if an attempt is pending in it.
+///   The answers are recovered under their lock, and only by a command that appends to them.
+/// - An attempt is final only if it was pending in a recovered journal, and the lock of its command
+///   was got then. A doubt is recorded of such an attempt alone. Its time is read after that lock
+///   was got. `Status` and `Again` record none.
+/// - An answer is appended only if it and each other answer of the command is taken, by what was
+///   read under the locks. It has the text of its line, and the time of the clock.
+/// - The text is printed once, after all locks were released.
+///
 /// # Errors
 /// Each reason of `Halt`: nothing was printed then, and no answer was appended but those before a
 /// call that failed.

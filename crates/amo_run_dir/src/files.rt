@@ -1,8 +1,6 @@
 //! The run's folder: its files, each opened, read and made by its name.
-use crate::error::{Fault, had, written};
-use crate::layout::Item;
-use crate::settings::Setting;
 use amo_fs::{create_private, open_private, read_file, replace_file, sync_folder};
+use amo_run_faults::{Fault, Item, Setting, had, written};
 use std::alloc::Global;
 use std::fs;
 use std::fs::File;
@@ -41,7 +39,12 @@ pub fn bytes_of(
 ///
 /// # Errors
 /// `Read` for the system's.
-pub fn bytes_from(alloc: Global, item: Item, file: &File, start: u64) -> Result<Vec<u8>, Fault> {
+pub(crate) fn bytes_from(
+    alloc: Global,
+    item: Item,
+    file: &File,
+    start: u64,
+) -> Result<Vec<u8>, Fault> {
     let mut bytes = Vec::new(alloc);
     let mut chunk = [0u8; CHUNK];
     for _chunk in 0..u64::MAX {
@@ -61,7 +64,7 @@ pub fn bytes_from(alloc: Global, item: Item, file: &File, start: u64) -> Result<
 /// # Errors
 ///
 /// `Missing` if it isn't there, else `Write`.
-pub fn opened(rt: HostRuntime, setting: &Setting<'_>, item: Item) -> Result<File, Fault> {
+pub(crate) fn opened(rt: HostRuntime, setting: &Setting<'_>, item: Item) -> Result<File, Fault> {
     let path = path_of(rt, setting, item)?;
     if let Item::Runner(_) = item {
         return written(item, create_private(&rt, path.as_str()));
@@ -76,7 +79,7 @@ pub fn opened(rt: HostRuntime, setting: &Setting<'_>, item: Item) -> Result<File
 ///
 /// # Errors
 /// `Read` for the system's.
-pub fn opened_to_read(
+pub(crate) fn opened_to_read(
     rt: HostRuntime,
     setting: &Setting<'_>,
     item: Item,

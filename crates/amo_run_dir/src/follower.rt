@@ -1,15 +1,14 @@
 //! A journal that is read on while its writer appends to it.
 ghost use Rattle.std.specs.Prelude.{◌≡◌, ◌+◌, ◌<◌, OnOk};
 
-use crate::error::{Fault, Later, had, written};
 use crate::files::{bytes_from, opened_to_read, path_of};
 use crate::identity::first_checksum;
-use crate::layout::Item;
-use crate::logs::{LOOKS, counted_in, extent_of, fault_of, log_in, loss_in};
-use crate::settings::Setting;
+use crate::logs::{LOOKS, counted_in, extent_of, fault_of, log_in};
 use amo_fs::is_at;
 use amo_journal::{Checksum, Log, Place, ReadOnError, read_on};
+use amo_run_faults::{Fault, Item, Later, Setting, had, written};
 use amo_run_files::{Extent, RoundFile};
+use amo_run_journals::loss_in;
 use std::alloc::Global;
 use std::fs::File;
 use std::rt::HostRuntime;

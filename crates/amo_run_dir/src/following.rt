@@ -1,9 +1,7 @@
 //! Reading of a run's answers and journals while others append to them.
-use crate::error::Fault;
 use crate::follower::Follower;
-use crate::layout::Item;
-use crate::settings::Setting;
 use amo_givens::MAX_WORKERS;
+use amo_run_faults::{Fault, Item, Setting};
 use amo_run_files::{Extent, RoundFile};
 use std::alloc::Global;
 use std::fs::File;

@@ -1,11 +1,7 @@
 //! The identity of a run's folder: its id, and the files that were made with it.
-use crate::error::{Fault, had};
 use crate::files::{bytes_of, path_of};
-use crate::layout::Item;
-use crate::names::is_id;
-use crate::settings::Setting;
-use amo_givens::MAX_WORKERS;
 use amo_journal::Checksum;
+use amo_run_faults::{Fault, Item, Setting, had, is_id};
 use std::fs;
 use std::io::ErrorKind;
 use std::rt::HostRuntime;
@@ -81,8 +77,7 @@ pub fn check_id(rt: HostRuntime, setting: &Setting<'_>) -> Result<(), Fault> {
 /// or isn't a run's.
 ///
 /// # Errors
-///
-/// The fault that kept it from looking.
+/// `Read` if its record can't be read, and `Memory`.
 pub fn no_id(rt: HostRuntime, setting: &Setting<'_>) -> Result<Fault, Fault> {
     match bytes_of(rt, setting, Item::Record)? {
         Some(bytes) if bytes.starts_with(b"amo-run 2\n") => Ok(Fault::Missing(Item::Id)),
@@ -103,34 +98,10 @@ pub fn check_kept(rt: HostRuntime, setting: &Setting<'_>) -> Result<(), Fault> {
     }
 }
 
-/// Refuses a folder in which a file is missing that was made with the id, or has lost all its
-/// bytes.
-///
-/// # Errors
-/// `Missing` or `Empty`, by the file's name.
-pub fn check_whole(rt: HostRuntime, setting: &Setting<'_>) -> Result<(), Fault> {
-    if len_of(rt, setting, Item::Round)?.is_none() {
-        return Err(Fault::Missing(Item::Round));
-    }
-    check_bytes(rt, setting, Item::Answers)?;
-    for worker in 1..=MAX_WORKERS as u64 {
-        check_bytes(rt, setting, Item::Journal(worker))?;
-    }
-    Ok(())
-}
-
-fn check_bytes(rt: HostRuntime, setting: &Setting<'_>, item: Item) -> Result<(), Fault> {
-    match len_of(rt, setting, item)? {
-        None => Err(Fault::Missing(item)),
-        Some(0) => Err(Fault::Empty(item)),
-        Some(_) => Ok(()),
-    }
-}
-
 /// Returns how many bytes a file of the run has, if there is one.
 ///
 /// # Errors
-/// `Read` for the system's.
+/// `Read` if the system can't look the file up, and `Memory`.
 pub fn len_of(rt: HostRuntime, setting: &Setting<'_>, item: Item) -> Result<Option<u64>, Fault> {
     let path = path_of(rt, setting, item)?;
     match fs::metadata(&rt, path.as_str()) {

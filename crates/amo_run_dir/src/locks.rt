@@ -1,25 +1,14 @@
 //! The locks of a run, and the guard of a worker's number.
-use crate::error::{Fault, Later, had, written};
 use crate::files::{opened, opened_to_read, path_of};
 use crate::identity::{check_kept, first_checksum};
-use crate::journal::OpenJournal;
-use crate::layout::Item;
 use crate::logs::log_of;
-use crate::settings::Setting;
 use amo_fs::{FileDevice, is_at, try_exclusive, try_shared};
 use amo_journal::{DeviceError, RecoverError};
+use amo_run_faults::{Fault, Item, Later, Setting, had, written};
 use amo_run_files::RoundFile;
+use amo_run_journals::OpenJournal;
 use std::fs::File;
-use std::os::unix::fs::MetadataExt;
 use std::rt::HostRuntime;
-use std::thread;
-use std::time::Duration;
-
-/// How often a lock is tried, since readers hold locks for a moment: for two seconds in all.
-const TRIES: u32 = 100;
-
-/// The pause between two tries, in milliseconds.
-const PAUSE: u64 = 20;
 
 /// Takes the exclusive lock on a file of the run. Returns `None` if another process has a lock. It
 /// doesn't wait.
@@ -33,22 +22,6 @@ pub fn lock_of(rt: HostRuntime, setting: &Setting<'_>, item: Item) -> Result<Opt
         return Ok(None);
     }
     still_there(rt, setting, item, file)
-}
-
-/// Takes the exclusive lock on a file of the run, and tries for two seconds. Returns `None` if
-/// another process has a lock for all of them.
-pub(crate) fn lock_within(
-    rt: HostRuntime,
-    setting: &Setting<'_>,
-    item: Item,
-) -> Result<Option<File>, Fault> {
-    for _try in 0..TRIES {
-        if let Some(lock) = lock_of(rt, setting, item)? {
-            return Ok(Some(lock));
-        }
-        thread::sleep(&rt, Duration::from_millis(PAUSE));
-    }
-    Ok(None)
 }
 
 /// Takes a shared lock on a file of the run, by a new handle. Returns `None` if another process has
@@ -165,48 +138,5 @@ pub fn try_lock_of(rt: HostRuntime, setting: &Setting<'_>, item: Item) -> Result
         Ok(Tried::Got(file))
     } else {
         Ok(Tried::Held)
-    }
-}
-
-/// Returns why a number can't be taken, with the process that has its lock if the system lists it.
-pub fn holder(rt: HostRuntime, setting: &Setting<'_>, item: Item) -> Later {
-    match holder_of(rt, setting, item) {
-        Ok(Some(process)) => Later::TakenBy(process),
-        _ => Later::Taken,
-    }
-}
-
-fn holder_of(rt: HostRuntime, setting: &Setting<'_>, item: Item) -> Result<Option<u64>, Fault> {
-    let path = path_of(rt, setting, item)?;
-    let found = had(item, std::fs::metadata(&rt, path.as_str()))?;
-    let locks = had(item, std::fs::read_to_string(&rt, "/proc/locks"))?;
-    let end = format!(in rt.alloc(); ":{}", found.ino())?;
-    Ok(holder_in(locks.as_str(), end.as_str()))
-}
-
-/// Returns the process that has a lock on a whole file whose device and inode number end so.
-fn holder_in(locks: &str, end: &str) -> Option<u64> {
-    for line in locks.lines() {
-        if let Some(process) = holder_by(line, end) {
-            return Some(process);
-        }
-    }
-    None
-}
-
-/// Returns the process of a line like `1: FLOCK ADVISORY WRITE 708 08:01:1234 0 EOF`, if that is a
-/// lock on such a file.
-fn holder_by(line: &str, end: &str) -> Option<u64> {
-    let mut words = line.split_whitespace();
-    let _number = words.next()?;
-    let kind = words.next()?;
-    let _advisory = words.next()?;
-    let _how = words.next()?;
-    let process = words.next()?;
-    let place = words.next()?;
-    if kind == "FLOCK" && place.ends_with(end) {
-        process.parse::<u64>().ok()
-    } else {
-        None
     }
 }

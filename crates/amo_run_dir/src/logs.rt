@@ -1,38 +1,15 @@
 //! Reading of the journals of a run: each by its checksums, and by what the last round's header
 //! counts.
-ghost use Rattle.std.specs.Prelude.{◌≡◌, ◌<◌, ◌≤◌, IfNone, IfSome, IfOk, IfErr, option_map};
-ghost use Rattle.amo_journal.specs.Appends.{IsLog};
-ghost use Rattle.amo_journal.specs.Following.{IsPlace};
-ghost use Rattle.amo_journal.specs.Logs.{checksums_from, checksums_of, records_of};
-ghost use Rattle.amo_run_dir.specs.Known.{extent_named};
-ghost use Rattle.amo_run_dir.specs.Logs.{IsKept, IsWhyLost, IsWhyUnread, Keeps};
-ghost use Rattle.amo_run_dir.specs.declared.logs.Unread.TheVariants.{Fewer, Other};
-
-use crate::error::Fault;
 use crate::files::{bytes_from, opened_to_read};
 use crate::identity::first_checksum;
-use crate::layout::Item;
-use crate::loss::Loss;
 use crate::round::record_of;
-use crate::settings::Setting;
-use amo_journal::{Checksum, DamageKind, Log, Place, ReadError, read_whole};
+use amo_journal::{Checksum, Log, Place};
+use amo_run_faults::{Fault, Item, Loss, Setting};
 use amo_run_files::{Count, Extent, RoundFile};
+use amo_run_journals::{Unread, checked_log, extent_in};
 use std::alloc::Global;
 use std::fs::File;
 use std::rt::HostRuntime;
-
-/// Why a journal isn't read.
-#[derive(Clone, Copy, PartialEq, Eq)]
-pub(crate) enum Unread {
-    /// There was no memory.
-    Memory,
-    /// It is damaged at the append of this number, from 1.
-    Damaged(usize, DamageKind),
-    /// It has so many appends, and fewer than were counted.
-    Fewer(usize),
-    /// The last append that was counted is another one.
-    Other,
-}
 
 /// How often a journal is read again if it looks damaged and its writer goes on meanwhile.
 pub(crate) const LOOKS: u32 = 100;
@@ -83,18 +60,20 @@ pub(crate) fn log_in(
 
 /// The result of a look at a journal.
 #[derive(Drop)]
-pub(crate) enum Look {
+pub enum Look {
     /// It was read. The place is that of its last append.
     Read(Log, Place),
     /// It isn't read, for this reason; these are its bytes.
     Refused(Unread, Vec<u8>),
 }
 
-/// Reads a journal, and once more as long as it would be refused and shows other bytes.
+/// Reads a journal, and once more as long as it would be refused and shows other bytes. `first` is
+/// the checksum that stands before its first append, and `counted` what the file of the last round
+/// counts of it.
 ///
 /// # Errors
 /// `Missing` if it isn't there, `Empty` if it has no byte, and `Read`.
-pub(crate) fn look_at_log(
+pub fn look_at_log(
     rt: HostRuntime,
     setting: &Setting<'_>,
     item: Item,
@@ -155,8 +134,8 @@ fn begun(
 /// Returns what the file of the last round counts of a journal, if there is a round.
 ///
 /// # Errors
-/// `Refused` if it counts nothing of it.
-pub(crate) fn counted_in(
+/// `Refused` if it counts nothing of it, and `Memory`.
+pub fn counted_in(
     rt: HostRuntime,
     item: Item,
     last: Option<&RoundFile>,
@@ -188,72 +167,6 @@ pub(crate) fn extent_of(
     Ok(Extent::of_count(rt.alloc(), name.as_bytes(), &count)?)
 }
 
-/// Returns the extent of the file of this name, if there is one.
-pub(crate) fn extent_in<'a>(extents: &'a [Extent], name: &[u8]) -> Option<&'a Extent>
-    ensures { option_map (λ extent. extent.now) result ≡ extent_named name.now extents.now }
-{
-    for extent in extents {
-        if extent.name.as_slice() == name {
-            return Some(extent);
-        }
-    }
-    None
-}
-
-/// Reads a journal from its bytes, and compares it with what was counted. Returns the place of its
-/// last append too.
-pub(crate) fn checked_log(
-    alloc: Global,
-    first: Checksum,
-    counted: Option<Count>,
-    bytes: &[u8],
-) -> Result<(Log, Place), Unread>
-    ensures log { IfOk result (λ read. IsLog first.digits (records_of read.0.records.items) bytes.now) }
-    ensures checksums { IfOk result (λ read. checksums_of read.0.checksums.items ≡ checksums_from first.digits (records_of read.0.records.items)) }
-    ensures place { IfOk result (λ read. IsPlace first.digits (records_of read.0.records.items) read.1) }
-    ensures kept { IfOk result (λ read. Keeps counted first.digits (records_of read.0.records.items)) }
-    ensures refused { IfErr result (λ why. IsWhyUnread why counted first.digits bytes.now) }
-{
-    let (log, place) = match read_whole(alloc, &first, bytes) {
-        Ok(both) => both,
-        Err(ReadError::Memory) => return Err(Unread::Memory),
-        Err(ReadError::Damaged { number, kind }) => return Err(Unread::Damaged(number, kind)),
-    };
-    match loss_in(first, counted, &log.checksums) {
-        Some(why) => Err(why),
-        None => Ok((log, place)),
-    }
-}
-
-/// Returns the reason why a journal with these checksums isn't read, if it lacks a counted append.
-pub(crate) fn loss_in(
-    first: Checksum,
-    counted: Option<Count>,
-    checksums: &[Checksum],
-) -> Option<Unread>
-    ensures none { IfNone result (IsKept counted first.digits (checksums_of checksums.now)) }
-    ensures some { IfSome result (λ why. IsWhyLost why counted first.digits (checksums_of checksums.now)) }
-{
-    match counted {
-        Some(count) if !count.is_kept_by(first, checksums) => {
-            Some(loss_of(&count, checksums.len()))
-        }
-        _ => None,
-    }
-}
-
-/// Returns the loss of a journal of so many appends that doesn't keep a count.
-fn loss_of(count: &Count, appends: usize) -> Unread
-    ensures fewer { appends < count.now.appends → result ≡ Fewer appends }
-    ensures other { count.now.appends ≤ appends → result ≡ Other }
-{
-    if (appends as u64) < count.appends {
-        Unread::Fewer(appends)
-    } else {
-        Unread::Other
-    }
-}
-
 /// Returns true if a second read of a journal was refused as the first one was, and shows the same
 /// bytes.
 fn is_same(bytes: &[u8], why: Unread, again: &[u8], next: &Result<(Log, Place), Unread>) -> bool {
@@ -263,8 +176,9 @@ fn is_same(bytes: &[u8], why: Unread, again: &[u8], next: &Result<(Log, Place), 
     }
 }
 
-/// Returns the fault of a journal that isn't read.
-pub(crate) fn fault_of(
+/// Returns the fault of a journal that isn't read for this reason. `last` is the file of the last
+/// round, and `counted` what it counts of the journal.
+pub fn fault_of(
     item: Item,
     why: Unread,
     counted: Option<Count>,

@@ -1,9 +1,7 @@
 //! The file of the last round.
-use crate::error::Fault;
 use crate::files::{bytes_of, replaced};
 use crate::identity::first_checksum;
-use crate::layout::Item;
-use crate::settings::Setting;
+use amo_run_faults::{Fault, Item, Setting};
 use amo_run_files::RoundFile;
 use std::rt::HostRuntime;
 

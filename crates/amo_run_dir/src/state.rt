@@ -1,16 +1,14 @@
-//! The lines that a run knows: its file `jobs`, and the list from which they come.
+//! The lines that a run knows: its file `jobs`.
 ghost use Rattle.std.specs.Prelude.{◌≡◌, true, false, IfErr, IfOk, OnOk};
 ghost use Rattle.amo_run_log.specs.Texts.{ended};
-ghost use Rattle.amo_run_files.specs.Lines.{lines_in, BeginsWith};
+ghost use Rattle.amo_run_files.specs.Lines.{lines_in};
 ghost use Rattle.amo_run_files.specs.Refusals.{IsTaken};
-ghost use Rattle.amo_run_dir.specs.Known.{counts_jobs, IsWhyNotGrown, IsWhyUncounted, IsWhyUnknown};
+ghost use Rattle.amo_run_dir.specs.Known.{counts_jobs, IsWhyUncounted, IsWhyUnknown};
 
-use crate::error::Fault;
 use crate::files::bytes_of;
-use crate::layout::Item;
-use crate::logs::extent_in;
-use crate::settings::Setting;
-use amo_run_files::{HashedJobs, Jobs, JobsFault, RoundFile, first_difference};
+use amo_run_faults::{Fault, Item, Setting};
+use amo_run_files::{HashedJobs, Jobs, JobsFault, RoundFile};
+use amo_run_journals::extent_in;
 use std::alloc::{AllocError, Global};
 use std::rt::HostRuntime;
 
@@ -105,27 +103,6 @@ fn has_lines_of(jobs: &mut HashedJobs, round: &RoundFile) -> Result<bool, AllocE
     match extent_in(&round.extents, b"jobs") {
         Some(extent) => jobs.begin_with(extent),
         None => Ok(false),
-    }
-}
-
-/// Returns the jobs of a list, which begins with what the run knows. If `cut` is true, a last line
-/// without its end is left out: its writer may be at it.
-///
-/// # Errors
-/// `Changed` if the list doesn't begin with what the run knows. `List` if a line of it is refused.
-pub(crate) fn grown(alloc: Global, known: &Jobs, list: &[u8], cut: bool) -> Result<Jobs, Fault>
-    ensures front { IfOk result (λ _. BeginsWith (ended known.now) list.now) }
-    ensures taken { IfOk result (λ _. IsTaken list.now cut) }
-    ensures lines { IfOk result (λ jobs. jobs ≡ lines_in list.now) }
-    ensures refused { IfErr result (λ fault. IsWhyNotGrown fault (ended known.now) list.now cut) }
-{
-    if let Some(line) = first_difference(known.bytes(), list) {
-        return Err(Fault::Changed(line));
-    }
-    match Jobs::read(alloc, list.to_vec(alloc)?, cut) {
-        Ok(jobs) => Ok(jobs),
-        Err(JobsFault::Memory) => Err(Fault::Memory),
-        Err(JobsFault::Refused(line, why)) => Err(Fault::List(line, why)),
     }
 }
 

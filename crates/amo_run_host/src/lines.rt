@@ -1,5 +1,6 @@
 //! The lines that a run knows, as a worker reads them again.
-use amo_run_dir::{Fault, Setting, known, known_again};
+use amo_run_dir::{known, known_again};
+use amo_run_faults::{Fault, Setting};
 use amo_run_files::{HashedJobs, RoundFile};
 use std::rt::HostRuntime;
 

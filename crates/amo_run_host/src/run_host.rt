@@ -1,20 +1,20 @@
 //! The operating system, as a worker's process has it: the files of its run, its runner, the clock.
 ghost use Rattle.std.specs.Prelude.{◌≡◌};
 
-use crate::clock::{boot_id, now};
-use crate::items::{item_of_log, item_of_run_lock};
-use crate::last_fault::{LastFault, appended};
+use crate::boot::boot_id;
 use crate::lines::read_known;
-use crate::runner::Runner;
+use crate::registers::Words;
 use amo_fs::FileDevice;
 use amo_host::{Failed, Hold, Host, LogFile, LogPart, Registers, RunLock};
+use amo_host_parts::{LastFault, Runner, appended, item_of_log, now};
 use amo_journal::AppendError;
 use amo_run_dir::{
-    Fault, FollowedFiles, Item, ListSettings, OpenJournal, Setting, Words, check_kept,
-    check_number, lock_of, record_of, recovered, replace_record, replaced, shared_lock_of, sync,
-    synced_bytes,
+    FollowedFiles, check_kept, check_number, lock_of, record_of, recovered, replace_record,
+    replaced, shared_lock_of, sync, synced_bytes,
 };
+use amo_run_faults::{Fault, Item, ListSettings, Setting};
 use amo_run_files::{HashedJobs, RoundFile};
+use amo_run_journals::OpenJournal;
 use amo_run_log::{AttemptId, Entry};
 use std::alloc::AllocError;
 use std::fs::File;
@@ -145,6 +145,14 @@ impl<'a> RunHost<'a> {
         let own = guard_of(&self.guard, log == LogFile::Journal(self.worker));
         let (texts, counted) = self.logs.read(self.rt, &self.setting, last, item, own)?;
         Ok(LogPart { texts, counted })
+    }
+}
+
+/// Returns the file whose lock a worker's process takes.
+fn item_of_run_lock(lock: RunLock) -> Item {
+    match lock {
+        RunLock::Guard(worker) => Item::Journal(worker),
+        RunLock::Round => Item::Round,
     }
 }
 

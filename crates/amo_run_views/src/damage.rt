@@ -1,6 +1,7 @@
 //! Showing what can be read of a run that is refused.
-use amo_run_dir::{DamagedRun, Fault, Item, ReadableLog, Setting, look_for_damage};
-use amo_run_host::print;
+use crate::readable::{DamagedRun, ReadableLog, look_for_damage};
+use amo_host_parts::print;
+use amo_run_faults::{Fault, Item, Setting};
 use amo_run_log::{Append, Entry};
 use std::alloc::{AllocError, Global};
 use std::rt::HostRuntime;

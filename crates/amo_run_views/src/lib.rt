@@ -4,6 +4,7 @@
 
 mod damage;
 mod live;
+mod readable;
 
 pub use damage::show_damage;
 pub use live::follow;

@@ -1,11 +1,10 @@
 //! Following of a run: it prints a line of JSON a second, without any lock. Nothing is recovered,
 //! made or written. Start with [`follow`].
 use amo_givens::MAX_WORKERS;
-use amo_run_dir::{
-    Age, Fault, FollowedFiles, Item, Setting, bytes_of, known, look_to_read, record_of,
-};
+use amo_host_parts::{now, print};
+use amo_run_dir::{FollowedFiles, bytes_of, known, record_of};
+use amo_run_faults::{Fault, Item, Setting};
 use amo_run_files::RoundFile;
-use amo_run_host::{now, print};
 use amo_run_log::{ReadLogs, first_misplaced};
 use amo_status::{Counts, RunLog, counts, standings};
 use amo_watch::{AttemptRow, Head, attempt_rows, changed, watch_line};
@@ -46,15 +45,13 @@ struct FollowedRun<'a> {
 }
 
 /// Prints how a run stands, as one line, and then a line a second with what has changed, until the
-/// output is closed. With `is_once` it ends after the first line.
+/// output is closed. With `is_once` it ends after the first line. The caller has checked that the
+/// folder can be read as a run's, and that version 0.1.0 hasn't made it.
 ///
 /// # Errors
-/// As [`look_to_read`], and `OldRun` if version 0.1.0 has made the folder. `Later` if a journal
-/// can't be read on: then the same command begins anew. `Write` if the output is closed.
+/// `Later` if a journal can't be read on: then the same command begins anew. `Write` if the output
+/// is closed. Else the fault of a file that is damaged or can't be read, and `Memory`.
 pub fn follow(rt: HostRuntime, setting: &Setting<'_>, is_once: bool) -> Result<(), Fault> {
-    if look_to_read(rt, setting)? == Age::Old {
-        return Err(Fault::OldRun);
-    }
     let mut run = FollowedRun::new(rt, setting)?;
     run.read()?;
     let mut found = run.count()?;

@@ -1,15 +1,13 @@
 //! The whole program: its commands, its messages, and the statuses with which it ends.
-use crate::operator::{carry_out, said_by, said_in};
-use crate::remote::work_by_lines;
-use crate::worker::work;
+use amo_admission::{enter, look_at_folder, look_to_read, look_to_write, open};
 use amo_call_log::{End, VARIABLE};
 use amo_operator::Command;
-use amo_run_dir::{
-    Age, Fault, Item, ListSettings, Setting, look_at_folder, look_to_read, look_to_write, open,
-    written,
-};
+use amo_operator_commands::{carry_out, said_by, said_in};
+use amo_run_dir::Age;
+use amo_run_faults::{Fault, Item, ListSettings, Setting, written};
 use amo_run_views::{follow, show_damage};
 use amo_status::{Counts, Said, status_text};
+use amo_work_commands::{work, work_by_lines};
 use amo_worker_args::{Misuse, Request, asked};
 use clap::Error;
 use std::alloc::AllocError;
@@ -140,7 +138,7 @@ fn tell_misuse(rt: HostRuntime, misuse: &Misuse) -> u8 {
         }
         Misuse::Protocol => {
             let _ = eprintln!(rt;
-                "amo_worker: `--protocol`: it must be 2, since a runner of protocol 1 doesn't answer `clear`; see docs/STORES.md, then give --protocol 2"
+                "amo_worker: `--protocol`: it must be 2, since a runner of protocol 1 doesn't answer `clear`; see docs/guide/stores.md, then give --protocol 2"
             );
         }
     }
@@ -172,7 +170,7 @@ fn done(rt: HostRuntime, setting: &Setting<'_>, request: Request<'_>) -> Result<
         Request::Work(jobs, worker) => work_and_tell(rt, setting, &jobs, worker),
         Request::Lines(asked) => ended(work_by_lines(rt, asked)),
         Request::Damaged => ended(show_folder(rt, setting)),
-        Request::Follow(is_once) => ended(follow(rt, setting, is_once)),
+        Request::Follow(is_once) => ended(follow_folder(rt, setting, is_once)),
         Request::Status(form) => look(rt, setting, &Command::Status(form)),
         Request::Doubts(form) => look(rt, setting, &Command::Doubts(form)),
         Request::Answer(intent, line, text, verdict, quiet) => {
@@ -202,6 +200,7 @@ fn work_and_tell(
     jobs: &ListSettings<'_>,
     worker: u64,
 ) -> Result<(), End> {
+    enter(rt, setting)?;
     let counts = work(rt, setting, jobs, worker)?;
     ended(tell_all_done(rt, &counts))
 }
@@ -210,6 +209,14 @@ fn work_and_tell(
 fn show_folder(rt: HostRuntime, setting: &Setting<'_>) -> Result<(), Fault> {
     look_at_folder(rt, setting)?;
     show_damage(rt, setting)
+}
+
+/// Prints how a run stands, again and again.
+fn follow_folder(rt: HostRuntime, setting: &Setting<'_>, is_once: bool) -> Result<(), Fault> {
+    if look_to_read(rt, setting)? == Age::Old {
+        return Err(Fault::OldRun);
+    }
+    follow(rt, setting, is_once)
 }
 
 /// Carries out a command that only looks at the run, or records what is in doubt.

@@ -77,6 +77,14 @@ struct AllRead {
 
 /// Begins a round of the open lines, if nobody is in a round.
 ///
+/// The worker has the lock of the round, and no other process has. It reads the boot id, the header
+/// of the last round, the known lines, the list, the answers and all 16 journals. The list must
+/// begin with the known lines, and each answer must be of an attempt that was read. The new header
+/// has the next number, this boot, and what was read of each file. Its jobs are the first 4096 open
+/// lines. It is made after the file of the lines, and before the registers, which are all 0.
+///
+/// `NothingOpen` comes exactly if no line is open, by what was read.
+///
 /// # Errors
 /// `Failed`, and the worker's `halt` says why.
 pub fn begin<H: Host>(worker: &mut Worker<H>, sharing: Sharing) -> Result<Begun, Failed>

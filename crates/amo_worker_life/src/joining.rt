@@ -50,6 +50,11 @@ pub enum Joined {
 /// Joins the round that was begun last. The worker passes by a round in which it has no seat, and
 /// one that it has joined before: its part of that round is over.
 ///
+/// The worker shares the lock of the round, and has the seat that the header gives it. The header
+/// must be of this boot. The registers must have the head of that round, and its length. The worker
+/// syncs the folder before it reads the answers and all 16 journals, and its attempts go on from
+/// those in its own journal.
+///
 /// # Errors
 /// `Failed`, and the worker's `halt` says why.
 pub fn join<H: Host>(worker: &mut Worker<H>) -> Result<Joined, Failed>

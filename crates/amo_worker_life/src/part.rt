@@ -45,6 +45,12 @@ pub fn ask_past<H: Host>(worker: &mut Worker<H>, pending: &[Intent]) -> Result<A
 /// Takes part in a round as this one of its participants, until that part is over, and then appends
 /// what the worker owes.
 ///
+/// A line is handed over only after its intent is in the journal. Then the answers and all 16
+/// journals are read on, in this order, and no other attempt at the line may stand by them. The
+/// runner gets the text of that very line, once. A line that isn't clear gets the outcome
+/// `unbegun`, and a line that was handed over never does. An outcome is what the runner replied, to
+/// that attempt. It is owed, and appended with the next intent or at the end of the part.
+///
 /// # Errors
 /// As `work` of the driver, and `Failed` if what is owed can't be appended.
 pub fn take_part<H: Host>(

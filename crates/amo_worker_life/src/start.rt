@@ -32,6 +32,10 @@ struct Settled {
 /// Takes the worker's number, recovers its journal, and returns the attempts that are pending in
 /// it. The worker knows the lines of its run then.
 ///
+/// The worker gets the lock on its own journal alone. Under it, it checks the folder, reads the
+/// round header, recovers that journal by what the header counts, syncs the folder, and reads the
+/// lines, in this order.
+///
 /// # Errors
 /// `Failed`, and the worker's `halt` says why. `Held` if another process has the number.
 pub fn take_number<H: Host>(worker: &mut Worker<H>) -> Result<Vec<Intent>, Failed>

@@ -1,0 +1,1 @@
+-- Lemmas of `amo_admission`, by subject. Folders have the proofs of functions, by module.

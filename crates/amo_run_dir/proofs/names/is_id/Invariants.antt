@@ -1,7 +1,0 @@
--- The facts that each pass of a loop of `is_id` keeps.
-use Rattle.std.proofs.Common.{◌≡◌, drop}
-use Rattle.amo_run_dir.specs.Names.{are_hex}
-use Rattle.amo_run_dir.proofs.names.is_id.Given as goal
-
-abbrev pub invariant-loop-i : goal.invariant-loop-i
-invariant-loop-i l = are_hex (drop l.i l.text) ≡ are_hex l.text

@@ -1,0 +1,1 @@
+-- Lemmas of `amo_run_faults`, by subject. Folders have the proofs of functions, by module.

@@ -1,0 +1,159 @@
+//! The view of a run that is refused: the readable part of each file, and its fault. It writes
+//! nothing, and takes nothing for granted but the run's id.
+use amo_givens::MAX_WORKERS;
+use amo_journal::{Checksum, read_log};
+use amo_run_dir::{
+    Look, counted_in, fault_of, first_checksum, known, len_of, look_at_log, record_of,
+};
+use amo_run_faults::{Fault, Item, Setting};
+use amo_run_files::{Jobs, RoundFile};
+use amo_run_journals::Unread;
+use std::alloc::Global;
+use std::rt::HostRuntime;
+
+/// The readable part of the files of a run.
+#[derive(Drop)]
+pub(crate) struct DamagedRun {
+    /// The fault of the file of the last round, if it has one.
+    pub wrong_record: Option<Fault>,
+    /// The lines, if they can be read.
+    pub jobs: Option<Jobs>,
+    /// The fault of the lines' file, if it has one.
+    pub wrong_jobs: Option<Fault>,
+    /// The answers, and then the journals of the workers 1, 2 and so on.
+    pub logs: Vec<ReadableLog>,
+}
+
+/// The readable part of a journal.
+#[derive(Drop)]
+pub(crate) struct ReadableLog {
+    /// The records of each append that can be read.
+    pub records: Vec<Vec<u8>>,
+    /// The fault of the file, if it has one.
+    pub wrong: Option<Fault>,
+}
+
+impl DamagedRun {
+    /// Returns true if something is wrong with one of the files.
+    pub(crate) fn is_damaged(&self) -> bool {
+        let is_log = self.logs.iter().any(|log| log.wrong.is_some());
+        is_log || self.wrong_record.is_some() || self.wrong_jobs.is_some()
+    }
+}
+
+/// Reads what can be read of a run's files: the file of the last round first, then the answers, the
+/// journals and the jobs. A process may be at work: so what looks damaged is read once more.
+///
+/// # Errors
+/// `NoId` if the folder has no id, `Refused` if it is malformed, `Memory`.
+pub(crate) fn look_for_damage(rt: HostRuntime, setting: &Setting<'_>) -> Result<DamagedRun, Fault> {
+    first_checksum(rt, setting, Item::Record)?;
+    let (last, mut wrong_record) = parted(record_of(rt, setting))?;
+    let last = last.flatten();
+    let mut logs = Vec::new(rt.alloc());
+    logs.push(readable_log(rt, setting, Item::Answers, last.as_ref())?)?;
+    for worker in 1..=MAX_WORKERS as u64 {
+        let item = Item::Journal(worker);
+        logs.push(readable_log(rt, setting, item, last.as_ref())?)?;
+    }
+    let has_records = logs.iter().any(|log| !log.records.is_empty());
+    if has_records && last.is_none() && wrong_record.is_none() {
+        wrong_record = Some(Fault::Missing(Item::Record));
+    }
+    let is_begun = last.is_some() || wrong_record.is_some();
+    let (jobs, wrong_jobs) = parted(readable_jobs(rt, setting, last.as_ref(), is_begun))?;
+    Ok(DamagedRun {
+        wrong_record,
+        jobs,
+        wrong_jobs,
+        logs,
+    })
+}
+
+/// Reads the lines, which must be there if a round was begun.
+fn readable_jobs(
+    rt: HostRuntime,
+    setting: &Setting<'_>,
+    last: Option<&RoundFile>,
+    is_begun: bool,
+) -> Result<Jobs, Fault> {
+    if is_begun && len_of(rt, setting, Item::Known)?.is_none() {
+        return Err(Fault::Missing(Item::Known));
+    }
+    known(rt, setting, last)
+}
+
+/// Returns the value, or the reason without one.
+///
+/// # Errors
+///
+/// `Memory` if that was the reason.
+fn parted<T: Drop>(given: Result<T, Fault>) -> Result<(Option<T>, Option<Fault>), Fault> {
+    match given {
+        Ok(value) => Ok((Some(value), None)),
+        Err(Fault::Memory) => Err(Fault::Memory),
+        Err(fault) => Ok((None, Some(fault))),
+    }
+}
+
+/// Reads what can be read of a journal. `last` is the file of the last round, if it can be read.
+fn readable_log(
+    rt: HostRuntime,
+    setting: &Setting<'_>,
+    item: Item,
+    last: Option<&RoundFile>,
+) -> Result<ReadableLog, Fault> {
+    let first = first_checksum(rt, setting, item)?;
+    let counted = counted_in(rt, item, last)?;
+    let (look, wrong) = parted(look_at_log(rt, setting, item, first, counted))?;
+    match look {
+        None => Ok(ReadableLog {
+            records: Vec::new(rt.alloc()),
+            wrong,
+        }),
+        Some(Look::Read(log, _)) => Ok(ReadableLog {
+            records: log.records,
+            wrong: None,
+        }),
+        Some(Look::Refused(why, bytes)) => Ok(ReadableLog {
+            records: front_of(rt.alloc(), first, &bytes, why)?,
+            wrong: Some(fault_of(item, why, counted, last)),
+        }),
+    }
+}
+
+/// Returns the records of the appends that can be read of a journal that isn't read for this
+/// reason.
+///
+/// # Errors
+/// `Memory`.
+fn front_of(
+    alloc: Global,
+    first: Checksum,
+    bytes: &[u8],
+    why: Unread,
+) -> Result<Vec<Vec<u8>>, Fault> {
+    let front = match why {
+        Unread::Memory => return Err(Fault::Memory),
+        Unread::Damaged(number, _) => first_lines(bytes, number.saturating_sub(1)),
+        Unread::Fewer(_) | Unread::Other => bytes,
+    };
+    match read_log(alloc, &first, front) {
+        Ok(log) => Ok(log.records),
+        Err(_) => Err(Fault::Memory),
+    }
+}
+
+/// Returns the first lines of a file, so many of them, each with its line feed.
+fn first_lines(bytes: &[u8], count: usize) -> &[u8] {
+    let mut left = count;
+    for (i, byte) in bytes.iter().enumerate() {
+        if left == 0 {
+            return &bytes[..i];
+        }
+        if *byte == b'\n' {
+            left -= 1;
+        }
+    }
+    bytes
+}
