@@ -38,6 +38,7 @@ mod Stopping
 mod StoppingCalls
 mod StoppingSteps
 mod Final
+mod Outside
 mod Holding
 mod Lists
 mod Forever

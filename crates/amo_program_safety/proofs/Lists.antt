@@ -2,7 +2,6 @@
 -- give lines of the list. So if no two lines of the list are equal, no text is performed twice.
 use Rattle.std.proofs.Common.{◌≡◌, ◌⊎◌, inl, inr, ⊎_elim, ℕ, zero, suc, ◌<◌, ◌≤◌, ◌^◌, List, [], ◌∷◌, ◌++◌, length, map, Option, Some, None, refl, sym, ap, ◌∙◌, subst, arith}
 use Rattle.std.specs.Prelude.{Bool, true, false, Result, Ok, Err}
-use Rattle.std.specs.Str.{bytes_eq}
 use Rattle.std.proofs.lemmas.Option.{slice_get_cases}
 use Rattle.amo_clearance_safety.specs.Model.{Handing, AreDistinct, IsOneOf, with_at}
 use Rattle.amo_givens.specs.declared.givens.Givens.{Givens}
@@ -11,27 +10,19 @@ use Rattle.amo_givens.specs.declared.limits.TheConstants.{MAX_WORKERS}
 use Rattle.amo_givens.specs.Givens.{givens_of}
 use Rattle.amo_process.specs.Stepped.{ProcessView}
 use Rattle.amo_driver.specs.Stage.{Stage, Clearing}
-use Rattle.amo_driver.specs.declared.answer.Way.{Way}
-use Rattle.amo_driver.specs.declared.answer.Way.TheVariants.{Go, Leave}
 use Rattle.amo_driver.specs.declared.model.Try.{Try}
 use Rattle.amo_driver.specs.declared.model.Try.TheVariants.{Load, Store, Find, Intend, Clear, Perform, Note, Ask}
 use Rattle.amo_run_files.specs.declared.extent.Extent.{Extent}
 use Rattle.amo_run_files.specs.declared.round_file.RoundFile.{RoundFile}
 use Rattle.amo_run_files.specs.Jobs.{line_of}
 use Rattle.amo_run_files.specs.Rounds.{seat_of}
-use Rattle.amo_run_log.specs.declared.journal.Attempt.{Attempt}
-use Rattle.amo_run_log.specs.Journals.{attempts_in}
-use Rattle.amo_host.specs.declared.model.Hold.{Hold}
-use Rattle.amo_host.specs.declared.model.Hold.TheVariants.{Shared, Exclusive}
 use Rattle.amo_host.specs.declared.model.LogFile.{LogFile}
-use Rattle.amo_host.specs.Calls.{Request, TryLock, Say, Put, Owe, Pay, ReadOn, Call, Tried, HasUnlocked, FolderIsKept, FolderIsSynced, BootIs, RoundIs, Recovered, JobsAre, RegistersAre, ListIs, LogIs, JobsAreMade, RoundIsMade, RegistersAreMade, HasRead, Heard, Fell}
-use Rattle.amo_host.specs.Beginning.{begins_on}
-use Rattle.amo_host.specs.Joining.{joins_on, has_header, has_header_if, seated, are_of}
+use Rattle.amo_host.specs.Calls.{Request, Say, Put, Owe, Pay, ReadOn, Call, HasUnlocked, FolderIsSynced, JobsAre, RegistersAre, LogIs, HasRead, Fell}
+use Rattle.amo_host.specs.Joining.{joins_on, seated, are_of}
 use Rattle.amo_host.specs.Logs.{Logs, journals_from, logs_after, others}
-use Rattle.amo_host.specs.Phase.{Identity, Start, Unborn, Guards, Checked, Knows, HasRecovered, Settled, Join, Locked, Booted, HasHeader, HasJobs, Seated, Begin, LockedAlone, BootedAlone, HasLast, KnowsJobs, ListHasGrown, KnowsAll, RoundMade, RegistersMade, Purpose, ToWork, ToBegin, Phase, Starts, Asks, Idle, Begins, Joins, Reads, Works, Clears, Unclear, Over, Stays, Ended}
-use Rattle.amo_host.specs.Protocol.{CarriesOut, reads_on, reads_first, unread, fails, works_on, clears_on, locked_if, asks_on, idles_on, over_way, stays_if, over_on, stays_on, phase_after, Allows}
+use Rattle.amo_host.specs.Phase.{Identity, Join, Locked, Booted, HasHeader, HasJobs, Seated, Purpose, ToWork, ToBegin, Phase, Starts, Asks, Idle, Begins, Joins, Reads, Works, Clears, Unclear, Over, Stays, Ended}
+use Rattle.amo_host.specs.Protocol.{CarriesOut, reads_on, reads_first, unread, fails, works_on, clears_on, asks_on, phase_after, Allows}
 use Rattle.amo_host.specs.Reading.{reads_all, reads_more, reads_after}
-use Rattle.amo_host.specs.Starting.{asks_first, guards_if, starts_on}
 use Rattle.amo_operator.specs.Calls.{Request as CommandRequest, PutDoubt, PutAnswer, Call as CommandCall}
 use Rattle.amo_protocol.specs.Sayings.{perform_text}
 use Rattle.amo_protocol.proofs.SayingTexts.{over_differs}
@@ -41,6 +32,7 @@ use Rattle.amo_program_safety.specs.Machine.{Operator, Machine, Step, Happens, B
 use Rattle.amo_program_safety.specs.Steps.{MayFollow, IsRun, IsRunFrom, machine_from, machine_of}
 use Rattle.amo_program_safety.specs.Lists.{AreLinesOf, ReadsLinesOf, AllReadLinesOf, HasFewLines, HasNoTwoEqual, AreDistinctTexts}
 use Rattle.amo_program_safety.proofs.Happens.{some_is, without_of}
+use Rattle.amo_program_safety.proofs.Outside.{IsOutside, StaysOutside, none_outside, none_asking}
 use Rattle.amo_program_safety.proofs.Points.{at_number}
 use Rattle.amo_program_safety.proofs.Ready.{say_is, starts_quietly, tries_quietly, begins_quietly, joins_quietly, reads_quietly, clears_quietly, asks_otherwise}
 use Rattle.amo_program_safety.proofs.Said.{same_job}
@@ -72,60 +64,19 @@ lines_read c = None
 abbrev LinesFrom : Phase → Call → Phase → Type 0
 LinesFrom ph c ph' = (ls : List (List ℕ)) → lines_in_round ph' ≡ Some ls → (lines_in_round ph ≡ Some ls) ⊎ (lines_read c ≡ Some ls)
 
-none_from : (ph : Phase) (c : Call) (ph' : Phase) → lines_in_round ph' ≡ None → LinesFrom ph c ph'
-none_from ph c ph' none ls is = absurd (cc (none, is))
+lines_outside : (ph : Phase) → IsOutside ph → lines_in_round ph ≡ None
+lines_outside (Joins me (HasJobs prior file)) out = absurd out
+lines_outside (Joins me (Seated prior file givens seat)) out = absurd out
+lines_outside (Reads me (ToWork file givens seat) logs counts left) out = absurd out
+lines_outside (Works me jobs st owes logs) out = absurd out
+lines_outside (Clears me jobs s a j logs left) out = absurd out
+lines_outside ph out = refl
 
-guards_none : (worker : ℕ) (got : Bool) → lines_in_round (guards_if worker got) ≡ None
-guards_none worker true = refl
-guards_none worker false = refl
+none_from : (ph : Phase) (c : Call) → StaysOutside ph → LinesFrom ph c (phase_after ph c)
+none_from ph c stays ls is = absurd (cc (none_outside lines_in_round lines_outside ph c stays, is))
 
-first_none : (worker : ℕ) (lines : List (List ℕ)) (es : Option (List Attempt)) → lines_in_round (asks_first worker lines es) ≡ None
-first_none worker lines None = refl
-first_none worker lines (Some es) = refl
-
-starts_none : (worker : ℕ) (start : Start) (c : Call) → lines_in_round (starts_on worker start c) ≡ None
-starts_none worker Unborn (Tried lock hold got) = guards_none worker got
-starts_none worker Guards FolderIsKept = refl
-starts_none worker Checked (RoundIs last) = refl
-starts_none worker (Knows last) (Recovered from texts) = refl
-starts_none worker (HasRecovered last texts) FolderIsSynced = refl
-starts_none worker (Settled last texts) (JobsAre from lines) = first_none worker lines (attempts_in (length lines) texts)
-starts_none worker start c = refl
-
-locked_none : (from : Phase) (me : Identity) (prior : Option Logs) (hold : Hold) (got : Bool) → lines_in_round from ≡ None
-    → lines_in_round (locked_if from me prior hold got) ≡ None
-locked_none from me prior Shared true none = refl
-locked_none from me prior Exclusive true none = refl
-locked_none from me prior hold false none = none
-
-asks_none : (me : Identity) (st : Stage) (c : Call) → lines_in_round (asks_on me st c) ≡ None
-asks_none me st (Tried lock hold got) = locked_none (Asks me st) me None hold got refl
-asks_none me st (Fell (TryLock lock hold)) = refl
-asks_none me st c = refl
-
-idle_none : (me : Identity) (logs : Logs) (c : Call) → lines_in_round (idles_on me logs c) ≡ None
-idle_none me logs (Tried lock hold got) = locked_none (Idle me logs) me (Some logs) hold got refl
-idle_none me logs c = refl
-
-begins_none : (me : Identity) (begin : Begin) (c : Call) → lines_in_round (begins_on me begin c) ≡ None
-begins_none me (LockedAlone prior) (BootIs boot) = refl
-begins_none me (BootedAlone prior boot) (RoundIs last) = refl
-begins_none me (HasLast prior boot last) (JobsAre from lines) = refl
-begins_none me (KnowsJobs prior boot last) (ListIs bytes) = refl
-begins_none me (ListHasGrown boot last logs counts) (JobsAreMade bytes) = refl
-begins_none me (KnowsAll boot last logs counts) (RoundIsMade file) = refl
-begins_none me (KnowsAll boot last logs counts) (HasUnlocked lock) = refl
-begins_none me (RoundMade file logs) (RegistersAreMade bytes) = refl
-begins_none me (RegistersMade logs) (HasUnlocked lock) = refl
-begins_none me begin c = refl
-
-header_if_none : (me : Identity) (prior : Option Logs) (file : RoundFile) (same : Bool) → lines_in_round (has_header_if me prior file same) ≡ None
-header_if_none me prior file true = refl
-header_if_none me prior file false = refl
-
-header_none : (me : Identity) (prior : Option Logs) (boot : List ℕ) (last : Option RoundFile) → lines_in_round (has_header me prior boot last) ≡ None
-header_none me prior boot None = refl
-header_none me prior boot (Some file) = header_if_none me prior file (bytes_eq file.header.boot.items boot)
+asks_from : (me : Identity) (st : Stage) (c : Call) → LinesFrom (Asks me st) c (asks_on me st c)
+asks_from me st c ls is = absurd (cc (none_asking lines_in_round lines_outside (λ you at. refl) me st c, is))
 
 seated_from : (me : Identity) (prior : Option Logs) (file : RoundFile) (seat : Option ℕ) (givens : Result Givens GivensFault) (fits : Bool) (ls : List (List ℕ))
     → lines_in_round (seated me prior file seat givens fits) ≡ Some ls → Some me.lines ≡ Some ls
@@ -135,8 +86,8 @@ seated_from me prior file (Some seat) (Err fault) fits ls is = absurd (cc is)
 seated_from me prior file None givens fits ls is = absurd (cc is)
 
 joins_from : (me : Identity) (join : Join) (c : Call) → LinesFrom (Joins me join) c (joins_on me join c)
-joins_from me (Locked prior) (BootIs boot) ls is = absurd (cc is)
-joins_from me (Booted prior boot) (RoundIs last) ls is = absurd (cc (header_none me prior boot last, is))
+joins_from me (Locked prior) c ls is = none_from (Joins me (Locked prior)) c tt ls is
+joins_from me (Booted prior boot) c ls is = none_from (Joins me (Booted prior boot)) c tt ls is
 joins_from me (HasHeader prior file) (JobsAre last lines) ls is = inr is
 joins_from me (HasHeader prior file) (HasUnlocked lock) ls is = absurd (cc is)
 joins_from me (HasJobs prior file) (RegistersAre front registers) ls is =
@@ -161,19 +112,6 @@ reads_from : (me : Identity) (purpose : Purpose) (logs : Logs) (counts : List Ex
 reads_from me purpose logs counts left (LogIs f last texts counted) ls is =
     inl (more_from me purpose (logs_after logs f texts) (counts ++ counted ∷ []) (others left) ls is)
 reads_from me purpose logs counts left c ls is = absurd (cc is)
-
-stays_if_none : (me : Identity) (logs : Logs) (way : Option Way) → lines_in_round (stays_if me logs way) ≡ None
-stays_if_none me logs (Some Go) = refl
-stays_if_none me logs (Some Leave) = refl
-stays_if_none me logs None = refl
-
-over_none : (me : Identity) (logs : Logs) (c : Call) → lines_in_round (over_on me logs c) ≡ None
-over_none me logs (Heard line reply) = stays_if_none me logs (over_way reply)
-over_none me logs c = refl
-
-stays_none : (me : Identity) (logs : Logs) (c : Call) → lines_in_round (stays_on me logs c) ≡ None
-stays_none me logs FolderIsKept = refl
-stays_none me logs c = refl
 
 on_from : (me : Identity) (jobs : List ℕ) (s : ℕ) (a : ProcessView) (j : ℕ) (logs : Option Logs) (left : List LogFile) (ls : List (List ℕ))
     → lines_in_round (reads_on me jobs s a j logs left) ≡ Some ls → Some me.lines ≡ Some ls
@@ -212,18 +150,18 @@ clears_from me jobs s a j logs left c ls is = absurd (cc is)
 
 -- The lines by which a process works after a call are those before it, or the call has read them.
 lines_from : (ph : Phase) (c : Call) → LinesFrom ph c (phase_after ph c)
-lines_from (Starts worker start) c = none_from (Starts worker start) c (starts_on worker start c) (starts_none worker start c)
-lines_from (Asks me st) c = none_from (Asks me st) c (asks_on me st c) (asks_none me st c)
-lines_from (Idle me logs) c = none_from (Idle me logs) c (idles_on me logs c) (idle_none me logs c)
-lines_from (Begins me begin) c = none_from (Begins me begin) c (begins_on me begin c) (begins_none me begin c)
+lines_from (Starts worker start) c = none_from (Starts worker start) c tt
+lines_from (Asks me st) c = asks_from me st c
+lines_from (Idle me logs) c = none_from (Idle me logs) c tt
+lines_from (Begins me begin) c = none_from (Begins me begin) c tt
 lines_from (Joins me join) c = joins_from me join c
 lines_from (Reads me purpose logs counts left) c = reads_from me purpose logs counts left c
 lines_from (Works me jobs st owes logs) c = works_from me jobs st owes logs c
 lines_from (Clears me jobs s a j logs left) c = clears_from me jobs s a j logs left c
-lines_from (Unclear s) c = λ ls is. absurd (cc is)
-lines_from (Over me logs) c = none_from (Over me logs) c (over_on me logs c) (over_none me logs c)
-lines_from (Stays me logs) c = none_from (Stays me logs) c (stays_on me logs c) (stays_none me logs c)
-lines_from Ended c = λ ls is. absurd (cc is)
+lines_from (Unclear s) c = none_from (Unclear s) c tt
+lines_from (Over me logs) c = none_from (Over me logs) c tt
+lines_from (Stays me logs) c = none_from (Stays me logs) c tt
+lines_from Ended c = none_from Ended c tt
 
 -- ---- the line that a process hands over
 

@@ -1,13 +1,9 @@
 -- How a process comes to record an outcome of an attempt: it has declined the attempt, or a runner
 -- has reported the outcome.
-use Rattle.std.proofs.Common.{◌≡◌, ◌⊎◌, inl, inr, ⊎_elim, sym, ap, ◌∙◌, subst, ℕ, zero, suc, List, [], ◌∷◌, ◌++◌, length, Option, Some, None, refl}
-use Rattle.std.specs.Prelude.{Bool, true, false, ◌==◌, ◌+◌, if◌then◌else◌, Result, Ok, Err}
+use Rattle.std.proofs.Common.{◌≡◌, ◌⊎◌, inl, inr, ⊎_elim, sym, ap, ◌∙◌, subst, ℕ, zero, suc, List, [], ◌∷◌, Option, Some, None, refl}
+use Rattle.std.specs.Prelude.{Bool, true, false, ◌==◌, ◌+◌, if◌then◌else◌}
 use Rattle.std.proofs.lemmas.Bool.{cases_eq, eq-eqb, ne_eqb}
-use Rattle.std.specs.Str.{bytes_eq}
-use Rattle.amo_givens.specs.declared.givens.Givens.{Givens}
-use Rattle.amo_givens.specs.declared.givens.GivensFault.{GivensFault}
 use Rattle.amo_givens.specs.declared.limits.TheConstants.{MAX_WORKERS}
-use Rattle.amo_givens.specs.Givens.{givens_of}
 use Rattle.amo_process.specs.Heard.{told_by, doubted_by}
 use Rattle.amo_process.specs.Stepped.{ProcessView, process_after, may_leave, is_refused}
 use Rattle.amo_driver.specs.Course.{due, stage_after, stage_cleared, stage_heard, stage_by_jobs, stage_told, stage_replied, stage_asking, stage_asked}
@@ -22,24 +18,15 @@ use Rattle.amo_driver.specs.declared.model.Deed.TheVariants.{Loaded as WasLoaded
 use Rattle.amo_driver.specs.declared.model.Try.{Try}
 use Rattle.amo_driver.specs.declared.model.Try.TheVariants.{Load, Store, Find, Intend, Clear, Perform, Note, Ask}
 use Rattle.amo_driver.specs.declared.past.Intent.{Intent}
-use Rattle.amo_run_files.specs.declared.extent.Extent.{Extent}
-use Rattle.amo_run_files.specs.declared.round_file.RoundFile.{RoundFile}
-use Rattle.amo_run_files.specs.Rounds.{seat_of}
-use Rattle.amo_run_log.specs.declared.journal.Attempt.{Attempt}
-use Rattle.amo_run_log.specs.Journals.{attempts_in}
-use Rattle.amo_host.specs.declared.model.Hold.{Hold}
 use Rattle.amo_host.specs.declared.model.Hold.TheVariants.{Shared, Exclusive}
 use Rattle.amo_host.specs.declared.model.LogFile.{LogFile}
-use Rattle.amo_host.specs.Calls.{Request, TryLock, Put, Owe, Pay, ReadOn, Call, Tried, HasUnlocked, Loaded, Stored, PassedOver, HasPut, HasOwed, FolderIsKept, FolderIsSynced, BootIs, RoundIs, Recovered, JobsAre, RegistersAre, ListIs, LogIs, JobsAreMade, RoundIsMade, RegistersAreMade, HasRead, Heard, Fell, request_of}
-use Rattle.amo_host.specs.Beginning.{begins_on}
-use Rattle.amo_host.specs.Joining.{joins_on, has_header, has_header_if, seated, are_of}
+use Rattle.amo_host.specs.Calls.{Request, TryLock, Put, Owe, Pay, ReadOn, Call, Tried, HasUnlocked, Loaded, Stored, PassedOver, HasPut, HasOwed, HasRead, Heard, Fell, request_of}
 use Rattle.amo_host.specs.Logs.{Logs, journals_from, logs_after, others}
-use Rattle.amo_host.specs.Phase.{Identity, Start, Unborn, Guards, Checked, Knows, HasRecovered, Settled, Join, Locked, Booted, HasHeader, HasJobs, Seated, Begin, LockedAlone, BootedAlone, HasLast, KnowsJobs, ListHasGrown, KnowsAll, RoundMade, RegistersMade, Purpose, ToWork, ToBegin, Phase, Starts, Asks, Idle, Begins, Joins, Reads, Works, Clears, Unclear, Over, Stays, Ended}
-use Rattle.amo_host.specs.Protocol.{line_at, effect_of, stage_by, job_is_clear, reads_on, reads_first, unread, fails, locked_if, idles_on, over_way, stays_if, over_on, stays_on, phase_after}
-use Rattle.amo_host.specs.Reading.{reads_all, reads_more, reads_after}
-use Rattle.amo_host.specs.Starting.{asks_first, guards_if, starts_on}
+use Rattle.amo_host.specs.Phase.{Identity, Phase, Starts, Asks, Idle, Begins, Joins, Reads, Works, Clears, Unclear, Over, Stays, Ended}
+use Rattle.amo_host.specs.Protocol.{line_at, effect_of, stage_by, job_is_clear, reads_on, reads_first, unread, fails, phase_after}
 use Rattle.amo_protocol.specs.Lines.{reply_heard}
 use Rattle.amo_program_safety.proofs.Holding.{HasPutIt}
+use Rattle.amo_program_safety.proofs.Outside.{IsBefore, StaysBefore, none_before}
 
 -- ---- stages
 
@@ -209,31 +196,16 @@ MayDecline ph c n = ⊥
 abbrev pub PhaseNotes : Phase → Call → Type 0
 PhaseNotes ph c = (n : ℕ) → noted_in (phase_after ph c) ≡ Some n → (noted_in ph ≡ Some n) ⊎ (MayDecline ph c n ⊎ HasHeard c n)
 
-none_notes : (ph : Phase) (c : Call) → noted_in (phase_after ph c) ≡ None → PhaseNotes ph c
-none_notes ph c none n is = absurd (cc (none, is))
+noted_before : (ph : Phase) → IsBefore ph → noted_in ph ≡ None
+noted_before (Asks me (Asking intents)) before = refl
+noted_before (Asks me st) before = absurd before
+noted_before (Works me jobs (Going s a way) owes logs) before = refl
+noted_before (Works me jobs st owes logs) before = absurd before
+noted_before (Unclear s) before = absurd before
+noted_before ph before = refl
 
-guards_none : (worker : ℕ) (got : Bool) → noted_in (guards_if worker got) ≡ None
-guards_none worker true = refl
-guards_none worker false = refl
-
-first_none : (worker : ℕ) (lines : List (List ℕ)) (es : Option (List Attempt)) → noted_in (asks_first worker lines es) ≡ None
-first_none worker lines None = refl
-first_none worker lines (Some es) = refl
-
-starts_none : (worker : ℕ) (start : Start) (c : Call) → noted_in (starts_on worker start c) ≡ None
-starts_none worker Unborn (Tried lock hold got) = guards_none worker got
-starts_none worker Guards FolderIsKept = refl
-starts_none worker Checked (RoundIs last) = refl
-starts_none worker (Knows last) (Recovered from texts) = refl
-starts_none worker (HasRecovered last texts) FolderIsSynced = refl
-starts_none worker (Settled last texts) (JobsAre from lines) = first_none worker lines (attempts_in (length lines) texts)
-starts_none worker start c = refl
-
-locked_none : (from : Phase) (me : Identity) (prior : Option Logs) (hold : Hold) (got : Bool) → noted_in from ≡ None
-    → noted_in (locked_if from me prior hold got) ≡ None
-locked_none from me prior Shared true none = refl
-locked_none from me prior Exclusive true none = refl
-locked_none from me prior hold false none = none
+none_notes : (ph : Phase) (c : Call) → StaysBefore ph → PhaseNotes ph c
+none_notes ph c stays n is = absurd (cc (none_before noted_in noted_before ph c stays, is))
 
 asks_notes : (me : Identity) (st : Stage) (c : Call) → PhaseNotes (Asks me st) c
 asks_notes me st (Tried lock Shared true) n is = absurd (cc is)
@@ -242,77 +214,6 @@ asks_notes me st (Tried lock Shared false) n is = inl is
 asks_notes me st (Tried lock Exclusive false) n is = inl is
 asks_notes me st (Fell (TryLock lock hold)) n is = absurd (cc is)
 asks_notes me st c n is = by_notes (due st) st c n is
-
-idle_none : (me : Identity) (logs : Logs) (c : Call) → noted_in (idles_on me logs c) ≡ None
-idle_none me logs (Tried lock hold got) = locked_none (Idle me logs) me (Some logs) hold got refl
-idle_none me logs c = refl
-
-begins_none : (me : Identity) (begin : Begin) (c : Call) → noted_in (begins_on me begin c) ≡ None
-begins_none me (LockedAlone prior) (BootIs boot) = refl
-begins_none me (BootedAlone prior boot) (RoundIs last) = refl
-begins_none me (HasLast prior boot last) (JobsAre from lines) = refl
-begins_none me (KnowsJobs prior boot last) (ListIs bytes) = refl
-begins_none me (ListHasGrown boot last logs counts) (JobsAreMade bytes) = refl
-begins_none me (KnowsAll boot last logs counts) (RoundIsMade file) = refl
-begins_none me (KnowsAll boot last logs counts) (HasUnlocked lock) = refl
-begins_none me (RoundMade file logs) (RegistersAreMade bytes) = refl
-begins_none me (RegistersMade logs) (HasUnlocked lock) = refl
-begins_none me begin c = refl
-
-header_if_none : (me : Identity) (prior : Option Logs) (file : RoundFile) (same : Bool) → noted_in (has_header_if me prior file same) ≡ None
-header_if_none me prior file true = refl
-header_if_none me prior file false = refl
-
-header_none : (me : Identity) (prior : Option Logs) (boot : List ℕ) (last : Option RoundFile) → noted_in (has_header me prior boot last) ≡ None
-header_none me prior boot None = refl
-header_none me prior boot (Some file) = header_if_none me prior file (bytes_eq file.header.boot.items boot)
-
-seated_none : (me : Identity) (prior : Option Logs) (file : RoundFile) (seat : Option ℕ) (givens : Result Givens GivensFault) (fits : Bool)
-    → noted_in (seated me prior file seat givens fits) ≡ None
-seated_none me prior file (Some seat) (Ok givens) true = refl
-seated_none me prior file (Some seat) (Ok givens) false = refl
-seated_none me prior file (Some seat) (Err fault) fits = refl
-seated_none me prior file None givens fits = refl
-
-joins_none : (me : Identity) (join : Join) (c : Call) → noted_in (joins_on me join c) ≡ None
-joins_none me (Locked prior) (BootIs boot) = refl
-joins_none me (Booted prior boot) (RoundIs last) = header_none me prior boot last
-joins_none me (HasHeader prior file) (JobsAre last lines) = refl
-joins_none me (HasHeader prior file) (HasUnlocked lock) = refl
-joins_none me (HasJobs prior file) (RegistersAre front registers) =
-    let h = file.header in
-    seated_none me prior file (seat_of me.worker h.first h.workers h.givens.workers) (givens_of h.givens.jobs h.givens.workers h.givens.beta) (are_of h registers)
-joins_none me (Seated prior file givens seat) FolderIsSynced = refl
-joins_none me join c = refl
-
-all_none : (me : Identity) (purpose : Purpose) (logs : Logs) (counts : List Extent) → noted_in (reads_all me purpose logs counts) ≡ None
-all_none me (ToWork file givens seat) logs counts = refl
-all_none me (ToBegin boot last known list) logs counts = refl
-
-more_none : (me : Identity) (purpose : Purpose) (logs : Option Logs) (counts : List Extent) (left : List LogFile)
-    → noted_in (reads_more me purpose logs counts left) ≡ None
-more_none me purpose None counts left = refl
-more_none me purpose (Some logs) counts (f ∷ left) = refl
-more_none me purpose (Some logs) counts [] = all_none me purpose logs counts
-
-reads_none : (me : Identity) (purpose : Purpose) (logs : Logs) (counts : List Extent) (left : List LogFile) (c : Call)
-    → noted_in (reads_after me purpose logs counts left c) ≡ None
-reads_none me purpose logs counts left (LogIs f last texts counted) =
-    more_none me purpose (logs_after logs f texts) (counts ++ counted ∷ []) (others left)
-reads_none me purpose logs counts left c = refl
-
-stays_if_none : (me : Identity) (logs : Logs) (way : Option Way) → noted_in (stays_if me logs way) ≡ None
-stays_if_none me logs (Some Go) = refl
-stays_if_none me logs (Some Leave) = refl
-stays_if_none me logs None = refl
-
-over_none : (me : Identity) (logs : Logs) (c : Call) → noted_in (over_on me logs c) ≡ None
-over_none me logs (Heard line reply) = stays_if_none me logs (over_way reply)
-over_none me logs c = refl
-
-stays_none : (me : Identity) (logs : Logs) (c : Call) → noted_in (stays_on me logs c) ≡ None
-stays_none me logs FolderIsKept = refl
-stays_none me logs c = refl
 
 on_notes : (me : Identity) (jobs : List ℕ) (s : ℕ) (a : ProcessView) (j : ℕ) (logs : Option Logs) (left : List LogFile) (n : ℕ)
     → noted_in (reads_on me jobs s a j logs left) ≡ Some n → s ≡ n
@@ -353,15 +254,15 @@ clears_notes me jobs s a j logs left c n is = absurd (cc is)
 -- record the outcome before. Or it has declined the attempt. Or its runner has reported the
 -- outcome.
 pub phase_notes : (ph : Phase) (c : Call) → PhaseNotes ph c
-phase_notes (Starts worker start) c = none_notes (Starts worker start) c (starts_none worker start c)
+phase_notes (Starts worker start) c = none_notes (Starts worker start) c tt
 phase_notes (Asks me st) c = asks_notes me st c
-phase_notes (Idle me logs) c = none_notes (Idle me logs) c (idle_none me logs c)
-phase_notes (Begins me begin) c = none_notes (Begins me begin) c (begins_none me begin c)
-phase_notes (Joins me join) c = none_notes (Joins me join) c (joins_none me join c)
-phase_notes (Reads me purpose logs counts left) c = none_notes (Reads me purpose logs counts left) c (reads_none me purpose logs counts left c)
+phase_notes (Idle me logs) c = none_notes (Idle me logs) c tt
+phase_notes (Begins me begin) c = none_notes (Begins me begin) c tt
+phase_notes (Joins me join) c = none_notes (Joins me join) c tt
+phase_notes (Reads me purpose logs counts left) c = none_notes (Reads me purpose logs counts left) c tt
 phase_notes (Works me jobs st owes logs) c = works_notes me jobs st owes logs c
 phase_notes (Clears me jobs s a j logs left) c = clears_notes me jobs s a j logs left c
-phase_notes (Unclear s) c = none_notes (Unclear s) c refl
-phase_notes (Over me logs) c = none_notes (Over me logs) c (over_none me logs c)
-phase_notes (Stays me logs) c = none_notes (Stays me logs) c (stays_none me logs c)
-phase_notes Ended c = none_notes Ended c refl
+phase_notes (Unclear s) c = none_notes (Unclear s) c tt
+phase_notes (Over me logs) c = none_notes (Over me logs) c tt
+phase_notes (Stays me logs) c = none_notes (Stays me logs) c tt
+phase_notes Ended c = none_notes Ended c tt

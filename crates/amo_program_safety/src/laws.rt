@@ -91,7 +91,8 @@ pub fn recorded_outcomes_are_final_here()
         → IsOneOf (entries_of (append_in text)) (Answered serial outcome) → HasEndedHere (machine_of steps) worker serial }
 {}
 
-/// States that there is a run in which runners keep that rule, and in which an outcome is recorded.
+/// States that there is a run in which runners keep the rule `RunnersEnd`, and in which an outcome
+/// is recorded.
 pub fn an_outcome_is_recorded()
     ensures { (steps : List Step) × IsRunOfAll steps × RunnersEnd steps
         × (((machine_of steps).world.logs (Journal 1)).kept ≡ codes "intent 1 1 0" ∷ codes "done 1 0 0" ∷ []) }
@@ -126,16 +127,17 @@ pub fn a_line_is_performed()
     ensures { (es : List Event) × IsRun es × (map (λ h. h.line) (world_of es).performed ≡ 1 ∷ []) }
 {}
 
-/// Shows a run in which the machine stops while an intent is appended, and takes it. Then the line
-/// is performed.
+/// States that there is a run in which the machine stops while an intent is appended, and takes it,
+/// and the line is performed then.
 pub fn a_line_is_performed_after_a_stop_in_an_append()
     ensures { (before : List Event) × (after : List Event)
         × IsRun (before ++ Writes 1 (Put (Intent 1 1 0)) ∷ Stops (λ log. 0) ∷ after)
         × (map (λ h. h.line) (world_of (before ++ Writes 1 (Put (Intent 1 1 0)) ∷ Stops (λ log. 0) ∷ after)).performed ≡ 1 ∷ []) }
 {}
 
-/// Shows a run in which the machine stops while an intent is appended, and leaves it. The next
-/// process asks for it, and performs the line by another attempt.
+/// States that there is a run in which the machine stops while an intent is appended, and leaves
+/// it, and the line is performed then. The next process asks for the attempt, and performs the line
+/// by another one.
 pub fn a_line_is_performed_after_a_stop_that_leaves_an_append()
     ensures { (before : List Event) × (after : List Event)
         × IsRun (before ++ Writes 1 (Put (Intent 1 1 0)) ∷ Stops (λ log. 1) ∷ after)
@@ -143,21 +145,22 @@ pub fn a_line_is_performed_after_a_stop_that_leaves_an_append()
         × (map (λ h. h.line) (world_of (before ++ Writes 1 (Put (Intent 1 1 0)) ∷ Stops (λ log. 1) ∷ after)).performed ≡ 1 ∷ []) }
 {}
 
-/// Shows a run in which a process dies once its attempt is handed over. The next one learns from
-/// the runner that it is done, and records that.
+/// States that there is a run in which a process dies once its attempt is handed over, and the next
+/// one learns from the runner that it is done. The next process records that.
 pub fn an_attempt_of_a_dead_process_is_asked_for()
     ensures { (es : List Event) × IsRun es × (map (λ h. h.line) (world_of es).performed ≡ 1 ∷ [])
         × (((world_of es).logs (Journal 1)).kept ≡ codes "intent 1 1 0" ∷ codes "done 1 0 0" ∷ []) }
 {}
 
-/// Shows a run in which an attempt is handed over and does nothing. Its process dies, and an
-/// operator answers that it is not done. Then another worker performs the line.
+/// States that there is a run in which an attempt is handed over and does nothing, and another
+/// worker performs the line. Before that the process of the attempt dies, and an operator answers
+/// that it is not done.
 pub fn an_attempt_that_did_nothing_is_tried_again()
     ensures { (es : List Event) × IsRun es × (map (λ h. h.line) (world_of es).handed ≡ 1 ∷ 1 ∷ []) × (map (λ h. h.line) (world_of es).performed ≡ 1 ∷ []) }
 {}
 
-/// Shows a run in which an attempt is handed over, and its runner replies that it was not started.
-/// Then another worker performs the line.
+/// States that there is a run in which a runner replies that an attempt was not started, and
+/// another worker then performs the line.
 pub fn an_attempt_that_was_not_started_is_tried_again()
     ensures { (es : List Event) × IsRun es × (map (λ h. h.line) (world_of es).performed ≡ 1 ∷ []) × (map (λ h. h.line) (world_of es).handed ≡ 1 ∷ 1 ∷ []) }
 {}
