@@ -26,31 +26,31 @@ pub fn fewest_are_done()
         → fewest g ≤ jobs_done g ms }
 {}
 
-/// States that no more can be promised. For all givens there are turns and fewer halts than
-/// workers, after which all are gone, each that wasn't halted has ended, and no more jobs are done
-/// than `fewest`.
+/// States that some turns and halts leave no more jobs done than `fewest`, for all givens. The
+/// halts are fewer than the workers. After these moves all workers are gone, and each that wasn't
+/// halted has ended. So no more can be promised.
 pub fn fewest_are_met()
     ensures { (g : Givens) → (ms : List Move) × IsWorst g ms }
 {}
 
-/// States that `worst_moves` are such moves. Each worker but 1 announces its first choice and is
-/// halted. Worker 1 takes 2 m + 1 turns for each of the fewest jobs. The list is empty if there are
-/// fewer jobs than the threshold.
+/// States that after the moves `worst_moves` all workers are gone, each that wasn't halted has
+/// ended, and no more jobs are done than `fewest`. Each worker but 1 announces its first choice and
+/// is halted. Worker 1 takes 2 m + 1 turns for each of the fewest jobs. The list is empty if there
+/// are fewer jobs than the threshold.
 pub fn worst_moves_are_worst()
     ensures { (g : Givens) → IsWorst g (worst_moves g) }
 {}
 
-/// States that the effectiveness is exactly `fewest`. That is the least number of jobs done over
-/// all turns, with fewer halts than workers, after which all are gone.
+/// States that `fewest` is exactly the effectiveness: the least number of jobs done over all turns,
+/// with fewer halts than workers, after which all are gone.
 pub fn effectiveness_is_fewest()
     ensures { (g : Givens) → IsEffectiveness g (fewest g) }
 {}
 
-/// States that everyone comes to rest. For all givens there is a number such that in no list of
-/// moves more turns are taken by workers that aren't gone. And there is one such that a worker that
-/// is given more turns is gone, whatever the others do. So a worker that keeps getting turns ends
-/// by its own choice, if it isn't halted and doesn't leave. That holds for a worker, too, that was
-/// asked to leave and stayed.
+/// States that a worker that keeps getting turns ends by its own choice, whatever the others do, if
+/// it isn't halted and doesn't leave. That holds for a worker, too, that was asked to leave and
+/// stayed. For all givens there is a number such that in no list of moves more turns are taken by
+/// workers that aren't gone. And there is one such that a worker that is given more turns is gone.
 pub fn everyone_rests()
     ensures all { (g : Givens) → (k : ℕ) × ((ms : List Move) → turns_taken g (opening_world g) ms ≤ k) }
     ensures each { (g : Givens) → (k : ℕ) × ((ms : List Move) (p : ℕ) → k < turns_of p ms → (process (world_of g ms) p).gone ≡ true) }
@@ -66,8 +66,9 @@ pub fn rounds_come_to_an_end()
     ensures { (g : Givens) → (k : ℕ) × ((p : ℕ) → IsWorker g p → is_over (process (world_of g (rounds g.workers k)) p).local.phase ≡ true) }
 {}
 
-/// States that no turn is undone. Moves that begin with a turn of a worker that isn't gone lead
-/// from a lawful world to another one, even if counts of steps and histories are left out.
+/// States that no turn is undone: moves that begin with a turn of a worker that isn't gone lead
+/// from a lawful world to another one. Counts of steps and histories may be left out of the
+/// comparison.
 pub fn no_turn_is_undone()
     ensures { (g : Givens) (w : World) (p : ℕ) (ms : List Move) → IsLawful g w → (process w p).gone ≡ false
         → AreAlike (world_after_moves g w (Turn p ∷ ms)) w → ⊥ }

@@ -32,8 +32,8 @@ pub fn what_is_told_is_done()
         → shared_after w.givens s (Leaves w.number) ≡ s }
 {}
 
-/// States that the job to perform and the job in doubt are those of the definitions. Exactly one of
-/// them is the job in a worker's hand.
+/// States that a job in a worker's hand is the job to perform or the job in doubt, and never both.
+/// Both are those of the definitions.
 pub fn a_job_in_hand_is_told()
     ensures performs { (w : Worker) (t : Standing) → (next_of w t).perform ≡ to_perform t }
     ensures doubts { (w : Worker) (t : Standing) → (next_of w t).doubt ≡ in_doubt t }

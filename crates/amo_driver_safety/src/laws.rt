@@ -84,10 +84,10 @@ pub fn courses_perform_once()
     ensures { (g : Givens) (p s : ℕ) (deeds : List Deed) → IsWorker g p → AreDue (first_stage g p s) deeds → AreDistinct (handed_by_deeds deeds) }
 {}
 
-/// States the order of deeds before a performance. Right before a job is handed to the partner,
-/// also if that fails, it was found clear. Right before that its intent was put. Right before the
-/// intent its claim was stored: the worker's count of claims, in its place, which the machine
-/// wanted. The store is one of this course: a claim that a former process has left isn't enough.
+/// States that three deeds come right before a job is handed to the partner, in this order: its
+/// claim is stored, its intent is put, and it is found clear. It holds also if the handing over
+/// fails. The store is that of the worker's count of claims, in its place, which the machine
+/// wanted. It is one of this course: a claim that a former process has left isn't enough.
 pub fn performances_follow_intents()
     ensures { (g : Givens) (p s n j : ℕ) (before after : List Deed) (d : Deed) → try_of d ≡ Perform n j
         → AreDue (first_stage g p s) (before ++ d ∷ after) → HasJustCleared g p (first_stage g p s) before n j }
@@ -112,9 +112,9 @@ pub fn the_driver_hands_over_only_what_is_clear()
         → AreDue (first_stage g p s) (before ++ d ∷ after) → (earlier : List Deed) × (before ≡ earlier ++ Intended n j ∷ []) }
 {}
 
-/// States the deeds after a job was found taken, in this order, and as far as the process comes. It
-/// notes that the job wasn't begun, and files the job at its place of the row. So a taken intent is
-/// noted before anything else is intended, unless the process ends.
+/// States that after a job was found taken, the process notes that the job wasn't begun, and files
+/// the job at its place of the row. It does so in this order, and as far as the process comes. So a
+/// taken intent is noted before anything else is intended, unless the process ends.
 pub fn what_is_taken_is_noted_as_unbegun()
     ensures { (g : Givens) (p s n j : ℕ) (before after : List Deed) → AreDue (first_stage g p s) (before ++ Cleared n j false ∷ after)
         → PassesOver g p (first_stage g p s) before n j after }
@@ -139,10 +139,11 @@ pub fn notes_say_what_was_answered()
         → AreDue (first_stage g p s) (before ++ d ∷ after) → HasJustAnswered before n a ⊎ HasJustFoundTaken before n a }
 {}
 
-/// States the deeds after a reply that asks the worker to leave: each at most once, in this order,
-/// and as far as the process comes. It notes the reply, unless the job still runs. It files the job
-/// at its place of the row, and takes the worker's announcement back. It loads nothing any more,
-/// claims nothing, and hands over no other job.
+/// States that after a reply that asks the worker to leave, the process only notes the reply, files
+/// the job and takes the worker's announcement back. Each of these comes at most once, in this
+/// order, and as far as the process comes. The reply is noted unless the job still runs, and the
+/// job is filed at its place of the row. The process loads nothing any more, claims nothing, and
+/// hands over no other job.
 pub fn who_is_told_to_leave_leaves()
     ensures { (g : Givens) (p s n j : ℕ) (reply : Reply) (before after : List Deed) → tells_to_leave reply ≡ true
         → AreDue (first_stage g p s) (before ++ Performed n j reply ∷ after) → TakesLeave g p (first_stage g p s) before n j reply after }

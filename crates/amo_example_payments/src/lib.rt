@@ -6,8 +6,8 @@
 //! journal before each payment and a receipt after it, and writes what became of each payment. It
 //! may wait.
 //!
-//! docs/EMBEDDING.md goes through all of it, to be copied. No other caller needs its parts, so they
-//! stay private.
+//! docs/guide/rattle.md goes through all of it, to be copied. No other caller needs its parts, so
+//! they stay private.
 //!
 //! | here | in the glossary |
 //! |---|---|

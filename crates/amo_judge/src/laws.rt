@@ -54,8 +54,8 @@ pub fn why_tests_the_state()
 {}
 
 /// States that the verdict on a history whose events aren't a run names the first event that is no
-/// step. The reason that is found for this event follows. The next theorems state, for each reason,
-/// that it holds.
+/// step, and the reason that is found for it. The next theorems state, for each reason, that it
+/// holds.
 pub fn unlawful_tells_the_reason()
     ensures { (text : List ℕ) (number : ℕ) (t : IsUnlawfulText text number) → (reason : Reason)
         × (reason_of t.history.givens t.bad.before (worker_of t.bad.bad) t.bad.bad ≡ Some reason)
@@ -73,16 +73,16 @@ pub fn who_is_not_there_is_none()
         → ((event ≡ Claimed (worker_of event) j) ⊎ (event ≡ Done (worker_of event) j)) × (IsJob g j → ⊥) }
 {}
 
-/// States that a worker that a verdict calls gone is the one of the event. The event whose number
-/// the verdict names is the one by which it was gone: it had ended, was halted or had left.
+/// States that a worker that a verdict calls gone had ended, was halted or had left in the event
+/// whose number the verdict names. It is the worker of the event that is refused.
 pub fn who_was_gone_went_in_that_event()
     ensures { (g : GivensView) (before : List Event) (event end : Event) (p i : ℕ)
         → reason_of g before (worker_of event) event ≡ Some (Gone p end i)
         → (worker_of event ≡ p) × (event_at before i ≡ Some end) × ((end ≡ Ended p) ⊎ ((end ≡ Halted p) ⊎ (end ≡ Left p))) }
 {}
 
-/// States that a worker that a verdict calls busy is the one of the event. In the state that the
-/// events before leave, it has the named job in its hand. It claimed this job in the event whose
+/// States that a worker that a verdict calls busy has the named job in its hand, in the state that
+/// the events before leave. It is the worker of the event. It claimed this job in the event whose
 /// number the verdict names. No later event of those before is a claim or a done of it.
 pub fn what_is_in_hand_was_claimed_in_that_event()
     ensures hand { (g : GivensView) (before : List Event) (event : Event) (p j i : ℕ)
@@ -96,17 +96,17 @@ pub fn what_is_in_hand_was_claimed_in_that_event()
         → (later job : ℕ) → i < later → (event_at before later ≢ Some (Claimed p job)) × (event_at before later ≢ Some (Done p job)) }
 {}
 
-/// States that a job that a verdict calls claimed is the one that the event claims. The event whose
-/// number the verdict names is a claim of this job by the worker that it names.
+/// States that a job that a verdict calls claimed was claimed in the event whose number the verdict
+/// names, by the worker that it names. It is the job that the refused event claims.
 pub fn what_was_claimed_was_claimed_in_that_event()
     ensures { (g : GivensView) (before : List Event) (event : Event) (j q i : ℕ)
         → reason_of g before (worker_of event) event ≡ Some (ClaimedBefore j q i)
         → (event ≡ Claimed (worker_of event) j) × (event_at before i ≡ Some (Claimed q j)) }
 {}
 
-/// States that an event that a verdict refuses since the job isn't in the worker's hand is a done
-/// of this job by this worker. In the state that the events before leave, this worker has another
-/// job in its hand, or none.
+/// States that if a verdict refuses an event since the job isn't in the worker's hand, the worker
+/// has another job in its hand, or none. This is in the state that the events before leave. The
+/// event is a done of this job by this worker.
 pub fn what_is_not_in_hand_is_not_there()
     ensures { (g : GivensView) (before : List Event) (event : Event) (p j : ℕ)
         → is_step g (object_after_all (first_object g) before) event ≡ false
@@ -114,9 +114,9 @@ pub fn what_is_not_in_hand_is_not_there()
         → (event ≡ Done p j) × (numbered 0 (object_after_all (first_object g) before).in_hand p ≢ j) }
 {}
 
-/// States that an event that a verdict refuses as an early end is an end by the worker's own
-/// choice. As many jobs as the verdict names are performed in the state that the events before
-/// leave. They are fewer than the bound, which the verdict names too.
+/// States that if a verdict refuses an event as an early end, fewer jobs than the bound are
+/// performed in the state that the events before leave. The verdict names both numbers. The event
+/// is an end by the worker's own choice.
 pub fn who_ends_early_ends_below_the_bound()
     ensures { (g : GivensView) (before : List Event) (event : Event) (performed least : ℕ)
         → is_step g (object_after_all (first_object g) before) event ≡ false
@@ -125,7 +125,7 @@ pub fn who_ends_early_ends_below_the_bound()
 {}
 
 /// States that a verdict has the first reason that holds, in the order of the table of
-/// docs/FORMATS.md. The worker exists if any reason but an unknown worker is given, and isn't gone
+/// docs/formats.md. The worker exists if any reason but an unknown worker is given, and isn't gone
 /// if a later reason is given. Then the job exists, and then the worker has nothing in its hand.
 pub fn no_reason_before_it_holds()
     ensures gone { (g : GivensView) (before : List Event) (event end : Event) (p i : ℕ)

@@ -39,9 +39,9 @@ ghost use Rattle.amo_kk.specs.declared.model.Object.{Object};
 ghost use Rattle.amo_kk.specs.declared.phase.Want.TheVariants.{StoreNext};
 ghost use Rattle.amo_kk.specs.declared.phase.Phase.TheVariants.{Announcing, Holding, Over};
 
-/// States the main theorem, for all givens and every list of turns, halts and leaves. The world is
-/// lawful. Its history is a run of the one sequential object, and the state that the run leaves
-/// agrees with the world.
+/// States that after every list of turns, halts and leaves the world is lawful, and its history is
+/// a run of the one sequential object. The state that the run leaves agrees with the world. This is
+/// the main theorem, for all givens.
 pub fn history_is_a_run()
     ensures lawful { (g : Givens) (moves : List Move) → IsLawful g (world_of g moves) }
     ensures run { (g : Givens) (moves : List Move)
@@ -50,19 +50,19 @@ pub fn history_is_a_run()
         → Agrees g (process (world_of g moves)) (object_of g (world_of g moves)) }
 {}
 
-/// States one step of the main theorem. Each turn, halt and leave leads from a lawful world to a
-/// lawful world. And the run goes on: take any state that agrees with the world before. The events
-/// that the move adds are a run from that state, and the state after them agrees with the world
-/// after.
+/// States that each turn, halt and leave leads from a lawful world to a lawful world. It is one
+/// step of the main theorem. And the run goes on: take any state that agrees with the world before.
+/// The events that the move adds are a run from that state, and the state after them agrees with
+/// the world after.
 pub fn moves_keep_worlds_lawful()
     ensures lawful { (g : Givens) (w : World) (m : Move) → IsLawful g w → IsLawful g (world_after_move g w m) }
     ensures run { (g : Givens) (s : Object) (w : World) (m : Move) → IsLawful g w → Agrees g (process w) s
         → GoesOn g s w (world_after_move g w m) }
 {}
 
-/// States the consequences of a run in plain words. No job is claimed twice, and none is done
-/// twice. Each job is done after a claim of the same worker. A worker ends only after at least
-/// `bound` jobs are done.
+/// States that in a run no job is claimed twice, and none is done twice. Each job is done after a
+/// claim of the same worker. A worker ends only after at least `bound` jobs are done. These are the
+/// consequences of a run in plain words.
 pub fn runs_claim_once()
     ensures claims { (g : Givens) (events : List Event) → IsRun g (first_object g) events → AreDistinct (claimed_jobs events) }
     ensures dones { (g : Givens) (events : List Event) → IsRun g (first_object g) events → AreDistinct (done_jobs events) }
@@ -99,9 +99,9 @@ pub fn alone_claims_or_ends_soon()
         → (i : ℕ) × (i < lone_bound g) × IsFirstToClaimOrEnd g w p i }
 {}
 
-/// States which registers a worker alone stores and reads in those turns. At most three attempts go
-/// on or begin. Each attempt stores at most one announcement, and reads at most `workers - 1`
-/// announcements and at most `workers - 1` zeros. No entry of a row is read twice.
+/// States that a worker that moves alone claims a job or ends in at most three attempts. One that
+/// was under way before counts. Each attempt stores at most one announcement, and reads at most
+/// `workers - 1` announcements and at most `workers - 1` zeros. No entry of a row is read twice.
 pub fn alone_takes_three_attempts()
     ensures { (g : Givens) (w : World) (p i : ℕ) → IsLawful g w → (process w p).gone ≡ false
         → IsFirstToClaimOrEnd g w p i → FitsThreeAttempts g w p i }

@@ -78,6 +78,10 @@ pub(crate) const PLACES: usize = 64;
 
 /// `Queue`: outputs on their way, in 64 places. It has an inlet and outlets of its own, which are
 /// made with it.
+///
+/// Between any two steps of any threads this holds for each worker: the inlet has taken, or the
+/// queue has, just what the outlet has sent, in order. The outlet has sent the first of the outputs
+/// that were put into it, and keeps the others.
 #[derive(Drop)]
 pub struct Queue<Out> {
     pub(crate) ring: Ring<Out>,

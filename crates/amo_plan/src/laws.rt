@@ -23,8 +23,8 @@ pub fn schedule_numbers_are_decimal()
     ensures { (text : List ℕ) (k : ℕ) → number_of text ≡ Some k ↔ (text ≡ decimal k) × (1 ≤ k) × (k ≤ HIGHEST_IN_WORD) }
 {}
 
-/// States the rules of each plan that is read: proper names that all differ, tasks that fit, as
-/// many budgets as workers, moves of workers that exist, and all limits.
+/// States that each plan that is read has proper names that all differ, tasks that fit, as many
+/// budgets as workers, and moves of workers that exist. It keeps all limits.
 pub fn plans_keep_their_rules()
     ensures { (bytes : List ℕ) (p : PlanSeen) → plan_of bytes ≡ Ok p → Keeps p }
 {}

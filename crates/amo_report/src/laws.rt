@@ -31,9 +31,9 @@ pub fn lone_turns_are_counted()
         → (i : ℕ) × IsFirstToClaimOrEnd g w p i × (lone_turns g p (lone_bound g) w ≡ suc i) }
 {}
 
-/// States three facts for a schedule of at most `MOST_STOPS` moves that is cut off anywhere. No
-/// worker takes more than `6 * workers + jobs` turns in one go. All workers are gone in the end.
-/// The judge finds the history lawful.
+/// States that all workers are gone in the end, if a schedule of at most `MOST_STOPS` moves is cut
+/// off anywhere. No worker takes more than `6 * workers + jobs` turns in one go. The judge finds
+/// the history lawful.
 pub fn stops_run_out()
     ensures most { (plan : PlanSeen) (p count : ℕ) → length plan.moves ≤ MOST_STOPS → (stopped plan p count).most ≤ 6 * plan.givens.workers + plan.givens.jobs }
     ensures gone { (plan : PlanSeen) (p count q : ℕ) → length plan.moves ≤ MOST_STOPS → (process (stopped plan p count).world q).gone ≡ true }

@@ -24,9 +24,9 @@ ghost use Rattle.amo_kk.specs.Again.{entries_of, doubt};
 ghost use Rattle.amo_restart.specs.Return.{process_after_return, tale_of, tale_after_move, tale_after_return, filed_in, world_of_tale, entries_for};
 ghost use Rattle.amo_restart.specs.Story.{IsStory, object_after_entries, events_in, doubted_jobs, returns_in_doubt, filed_jobs, sure_jobs, may_perform, HasNoDeed};
 
-/// States the main theorem, for all givens and every list of turns, halts, leaves and returns. All
-/// that holds of every world holds. The entries are a story of the one sequential object. The state
-/// that the story leaves agrees with the workers.
+/// States that the entries of every list of turns, halts, leaves and returns are a story of the one
+/// sequential object. All that holds of every world holds. The state that the story leaves agrees
+/// with the workers. This is the main theorem, for all givens.
 pub fn tale_is_a_story()
     ensures lawful { (g : Givens) (acts : List Act) → IsLawful g (world_of_tale (tale_of g acts)) }
     ensures story { (g : Givens) (acts : List Act) → IsStory g (first_object g) (tale_of g acts).entries }
@@ -34,9 +34,9 @@ pub fn tale_is_a_story()
         → Agrees g (process (world_of_tale (tale_of g acts))) (object_after_entries (first_object g) (tale_of g acts).entries) }
 {}
 
-/// States the consequences of a story in plain words, over all returns. No job is claimed twice,
-/// and none is filed twice. Each job that is filed, or in doubt at a return, was claimed before by
-/// the same worker. A job in doubt is not filed.
+/// States that over all returns no job is claimed twice, and none is filed twice. Each job that is
+/// filed, or in doubt at a return, was claimed before by the same worker. A job in doubt is not
+/// filed. These are the consequences of a story in plain words.
 pub fn stories_claim_once()
     ensures claims { (g : Givens) (xs : List Entry) → IsStory g (first_object g) xs → AreDistinct (claimed_jobs (events_in xs)) }
     ensures filed { (g : Givens) (xs : List Entry) → IsStory g (first_object g) xs → AreDistinct (filed_jobs xs) }
@@ -55,9 +55,9 @@ pub fn jobs_have_one_stretch()
         → may_perform p 0 before ≡ j → may_perform q 0 (before ++ more) ≡ j → (p ≡ q) × HasNoDeed p more }
 {}
 
-/// States the bound in its true form. If a worker has ended by its own choice, at least `bound`
-/// jobs are filed. The jobs performed for certain are fewer, by at most the jobs that were in doubt
-/// at a return. These are no more than the returns that found a job in doubt.
+/// States that if a worker has ended by its own choice, at least `bound` jobs are filed. The jobs
+/// performed for certain are fewer, by at most the jobs that were in doubt at a return. These are
+/// no more than the returns that found a job in doubt.
 pub fn stories_end_late()
     ensures filed { (g : Givens) (before after : List Entry) (p : ℕ)
         → IsStory g (first_object g) (before ++ Shown (Ended p) ∷ after) → bound g ≤ length (filed_jobs before) }

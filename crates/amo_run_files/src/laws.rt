@@ -26,15 +26,15 @@ pub fn a_file_is_its_lines()
         → (lines_in (ended lines ++ rest) ≡ lines) × (remainder_in (ended lines ++ rest) ≡ rest) }
 {}
 
-/// States what the first lines of a file are: lines with their ends, up to all of them, and then
-/// the whole file.
+/// States that the first lines of a file are lines with their ends, up to all of them, and then the
+/// whole file.
 pub fn what_first_lines_are()
     ensures ended { (count : ℕ) (file : List ℕ) → count ≤ length (lines_in file) → first_lines count file ≡ ended (take count (lines_in file)) }
     ensures whole { (count : ℕ) (file : List ℕ) → length (lines_in file) < count → first_lines count file ≡ file }
 {}
 
-/// States which line may follow others. It is text of 1 to 100,000 bytes, without NUL and carriage
-/// return, and equal to none of the others.
+/// States that a line may follow others exactly if it is text of 1 to 100,000 bytes, without NUL
+/// and carriage return, and equal to none of the others.
 pub fn what_may_stand()
     ensures is { (before : List (List ℕ)) (line : List ℕ) → why_not before line ≡ None → IsLine line × ¬ (Contains before line) }
     ensures only { (before : List (List ℕ)) (line : List ℕ) → IsLine line → ¬ (Contains before line) → why_not before line ≡ None }

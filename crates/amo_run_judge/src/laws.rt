@@ -20,7 +20,7 @@ pub fn a_text_is_the_log_of_one_list()
     ensures { (text : List ℕ) (es fs : List Event) → IsLog text es → IsLog text fs → es ≡ fs }
 {}
 
-/// States that if a text is the log of a run, no other answer is given than that.
+/// States that if a text is the log of a run, the answer is that it is a run, and no other.
 pub fn a_run_is_called_a_run()
     ensures { (text answer : List ℕ) (es : List Event) → IsLog text es → IsRun Clearance MAX_WORKERS es → IsAnswer text answer → answer ≡ outcome_text (IsARun es) }
 {}

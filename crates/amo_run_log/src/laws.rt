@@ -52,8 +52,8 @@ pub fn what_is_a_journal()
     ensures only { (count : ℕ) (entries : List EntryView) → IsJournal count entries → (attempts : List AttemptView) × (journal_of count entries ≡ Some attempts) }
 {}
 
-/// States what an open line is: each intent of it, in each journal, has an outcome that opens it,
-/// or was found not done.
+/// States that a line is open exactly if each intent of it, in each journal, has an outcome that
+/// opens it, or was found not done.
 pub fn what_is_open()
     ensures is { (findings : List FindingView) (journals : List (List AttemptView)) (line : ℕ)
         → is_open findings journals line ≡ true → IsOpen findings journals line }
@@ -67,8 +67,8 @@ pub fn a_journal_opens_none()
         → is_open findings (journals ++ more) line ≡ true → is_open findings journals line ≡ true }
 {}
 
-/// States that closing wins in one journal too. An intent more opens no line, nor does an outcome
-/// other than that it was not begun.
+/// States that in one journal an intent more opens no line, nor does an outcome other than that it
+/// was not begun. So closing wins there too.
 pub fn an_intent_opens_none()
     ensures { (count : ℕ) (findings : List FindingView) (before after : List (List AttemptView)) (attempts next : List AttemptView) (line : ℕ) (entry : EntryView)
         → OpensNone entry → noted count attempts entry ≡ Some next

@@ -30,10 +30,9 @@ ghost use Rattle.amo_run_safety.specs.Fewer.{IsOverButForProcesses, IsOverButFor
 
 use amo_journal::Device;
 
-/// States that each line of the jobs' file is performed at most once. Rounds may be begun as often
-/// as you like, any processes may die at any points, and the machine may stop at any time. We
-/// assume that no intent was performed that is noted as not begun, or that a person called not
-/// done.
+/// States that each line of the jobs' file is performed at most once, if no intent was performed
+/// that is noted as not begun or called not done. Rounds may be begun as often as you like, any
+/// processes may die at any points, and the machine may stop at any time.
 pub fn each_line_is_performed_at_most_once()
     ensures { (performed : ℕ → ℕ → Bool) (es : List Event) → IsRun es → AreUnperformed performed (openings es)
         → AreDistinct (performed_lines performed (handings es)) }
@@ -47,8 +46,8 @@ pub fn a_line_is_handed_over_again_only_when_opened()
         → is_among (openings before) earlier.worker earlier.serial ≡ true }
 {}
 
-/// States exactly how often a line is handed over, whatever the notes. It is at most once more than
-/// intents by which it was handed over are noted as not begun or not done.
+/// States that a line is handed over at most once more than intents by which it was handed over are
+/// noted as not begun or not done. Nothing is assumed of these notes.
 pub fn a_line_is_handed_over_once_more_than_opened()
     ensures { (es : List Event) (line : ℕ) → IsRun es
         → length (names_of_line line (handings es)) ≤ length (common (names_of_line line (handings es)) (openings es)) + 1 }
@@ -85,10 +84,10 @@ pub fn nobody_is_in_a_former_round()
     ensures { (es : List Event) (p k q : ℕ) → IsRun es → (site_of es).whereabouts p ≡ Inside k q → k ≡ (site_of es).last }
 {}
 
-/// States that there are such runs. In one run the machine stops while an intent is put, and the
-/// intent is lost. A process dies while its partner has a line. A person says that the line wasn't
-/// done, and a process of another worker hands it over again, in another round. All that is assumed
-/// of these notes holds.
+/// States that there is a run in which a line is handed over again and performed once. The machine
+/// stops while an intent is put, and the intent is lost. A process dies while its partner has a
+/// line. A person says that the line wasn't done, and a process of another worker hands it over
+/// again, in another round. All that is assumed of these notes holds.
 pub fn runs_there_are()
     ensures { (performed : ℕ → ℕ → Bool) × (es : List Event) × IsRun es × AreUnperformed performed (openings es)
         × (names_of (handings es) ≡ (1, 1) ∷ (2, 1) ∷ []) × (performed_lines performed (handings es) ≡ 1 ∷ []) }
@@ -119,18 +118,19 @@ pub fn one_outcome_is_owed_at_most()
     ensures outside { (es : List Event) (p : ℕ) → IsRun es → is_inside ((site_of es).whereabouts p) ≡ false → (site_of es).owed p ≡ [] }
 {}
 
-/// States that commands perform each line of the jobs' file at most once. Rounds may be begun as
-/// often as you like, any processes, runners and commands may die, and the machine may stop at any
-/// time. A command performs its line by a request, which may arrive at any later time. An intent
-/// may be noted as not begun or not done. We assume that the intent is over then, that no request
-/// of it is under way, and that its line wasn't performed until then. We don't assume that nothing
-/// performs the line afterwards: it follows. And no command begins twice, whatever is noted.
+/// States that commands perform each line of the list at most once, if each note that an intent was
+/// not begun or not done is true and not too early. True means that its line wasn't performed until
+/// then. Not too early means that the intent is over then, and that no request of it is under way.
+/// Rounds may be begun as often as you like, any processes, runners and commands may die, and the
+/// machine may stop at any time. A command performs its line by a request, which may arrive at any
+/// later time. We don't assume that nothing performs the line afterwards: it follows. And no
+/// command begins twice, whatever is noted.
 pub fn commands_perform_each_line_at_most_once()
     ensures lines { (actions : List Action) → AreActions actions → IsTruthful actions → IsPatient actions → AreDistinct (lines_in (yard_of actions).performed) }
     ensures commands { (actions : List Action) → AreActions actions → AreDifferent (names_of (yard_of actions).begun) }
 {}
 
-/// States what holds once an intent was listed as in doubt. No command of its line may begin here,
+/// States that once an intent was listed as in doubt, no command of its line may begin here,
 /// nothing of one is left here, and none sends a request. Only a request that was sent before may
 /// still arrive. It stays so until somebody notes that intent as `not-done` or `unbegun`.
 pub fn a_listed_doubt_is_final()
@@ -160,20 +160,20 @@ pub fn commands_stand_over_runs()
     ensures { (actions : List Action) → AreActions actions → IsRun (events_of actions) × ((yard_of actions).site ≡ site_of (events_of actions)) }
 {}
 
-/// States that there are such actions. In the run of `runs_there_are` the first command begins and
-/// does nothing. Its intent is listed as in doubt, and a person says truly that it wasn't done.
-/// Then another worker's command sends its request and ends, the machine stops, and the request
-/// arrives.
+/// States that there is a run with runners and commands in which a line is performed. It is the run
+/// of `runs_there_are`, in which the first command begins and does nothing. Its intent is listed as
+/// in doubt, and a person says truly that it wasn't done. Then another worker's command sends its
+/// request and ends, the machine stops, and the request arrives.
 pub fn commands_there_are()
     ensures { (actions : List Action) × AreActions actions × IsTruthful actions × IsPatient actions × (names_of (yard_of actions).begun ≡ (1, 1) ∷ (2, 1) ∷ [])
         × (names_of (yard_of actions).performed ≡ (2, 1) ∷ []) }
 {}
 
-/// States that each of the three locks is needed, and the truth too. By any two locks a line is
-/// performed twice, though all notes are true when they are made, and no request is under way. It
-/// isn't enough either that no process is about to hand the line over: a process that may still ask
-/// whether it may do so hands it over later. By all three locks a line is performed twice if a
-/// person calls a line not done that was performed.
+/// States that each of the three locks is needed: by any two of them a line is performed twice. All
+/// notes are true then when they are made, and no request is under way. It isn't enough either that
+/// no process is about to hand the line over: a process that may still ask whether it may do so
+/// hands it over later. By all three locks a line is performed twice if a person calls a line not
+/// done that was performed. So the truth is needed too.
 pub fn each_lock_is_needed()
     ensures journal { (actions : List Action) × AreActionsBy IsOverButForProcesses actions × IsTruthful actions × IsPatient actions × (lines_in (yard_of actions).performed ≡ 1 ∷ 1 ∷ []) }
     ensures runner { (actions : List Action) × AreActionsBy IsOverButForRunners actions × IsTruthful actions × IsPatient actions × (lines_in (yard_of actions).performed ≡ 1 ∷ 1 ∷ []) }

@@ -21,8 +21,8 @@ ghost use Rattle.amo_status.specs.Said.{SaidView, FitsSaid, lines_in, said_in, s
 ghost use Rattle.amo_status.specs.Standings.{open_standing, standing_of, IsByIntent};
 ghost use Rattle.amo_status.specs.States.{is, state_of};
 
-/// States by which intent a line has its status. A closed line has it by an intent of it that
-/// closes it, and by a running one if there is one. An open line has it by no intent.
+/// States that a closed line has its status by an intent of it that closes it, and by a running one
+/// if there is one. An open line has it by no intent.
 pub fn by_which_intent_a_line_stands()
     ensures closed { (findings : List FindingView) (journals : List (List AttemptView)) (finals : List IntentView) (line : ℕ)
         → is_open findings journals line ≡ false → IsByIntent findings journals finals line (standing_of findings journals finals line) }
@@ -33,9 +33,9 @@ pub fn by_which_intent_a_line_stands()
         → is Running (standing_of findings journals finals line).state ≡ true }
 {}
 
-/// States that an answer settles its line. Once an answer that may be taken is noted, the line is
-/// done by that intent, or that intent no longer closes it. The same answer again is refused as one
-/// that was given, and the contrary one as one that was given otherwise.
+/// States that once an answer that may be taken is noted, its line is done by that intent, or the
+/// intent no longer closes the line. The same answer again is refused as one that was given, and
+/// the contrary one as one that was given otherwise.
 pub fn an_answer_settles()
     ensures done { (findings : List FindingView) (journals : List (List AttemptView)) (finals : List IntentView) (worker serial line time : ℕ)
         → MayBeTaken findings journals finals worker serial line

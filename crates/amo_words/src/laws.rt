@@ -24,12 +24,12 @@ ghost use Rattle.amo_words.specs.Logs.{machine_after, moves_of, AreOwn, StartsWi
 ghost use Rattle.amo_words.specs.Rule.{AllStand, Has, HasWhole, IsOpen, SlotsFit, spent_view};
 ghost use Rattle.amo_words.specs.Looking.{IsBack, back_count};
 
-/// States that the shared state shows a world at each moment. Its registers are those of a lawful
-/// world, reached by a list of turns and leaves. Some handle has seen that whole list, or got it
-/// from a worker. Any other has seen a beginning of it. Each worker's machine is in the view of one
-/// handle alone, as it is in that world. A worker that is out has seen all its own moves. All views
-/// but spent ones have the floor's givens and payloads, and got a beginning of the list. A job's
-/// slot has its payload exactly until the job is claimed.
+/// States that at each moment the shared registers are those of a lawful world, reached by a list
+/// of turns and leaves. Some handle has seen that whole list, or got it from a worker. Any other
+/// has seen a beginning of it. Each worker's machine is in the view of one handle alone, as it is
+/// in that world. A worker that is out has seen all its own moves. All views but spent ones have
+/// the floor's givens and payloads, and got a beginning of the list. A job's slot has its payload
+/// exactly until the job is claimed.
 pub fn floors_show_worlds<P>()
     ensures world { (k : Key P) (s : State (Option P) (View P)) (h : IsOpen k s)
         → (s.words ≡ words_of (world_of k.givens h.log).processes) × IsLawful k.givens (world_of k.givens h.log) × AreOwn k.givens h.log }

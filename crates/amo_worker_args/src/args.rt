@@ -6,7 +6,7 @@ use crate::command_line::{BOOT, program};
 use amo_decimal::number;
 use amo_givens::{MAX_BETA, MAX_JOBS, MAX_WORKERS};
 use amo_operator::Form;
-use amo_run_dir::{ListSettings, Setting, is_id};
+use amo_run_faults::{ListSettings, Setting, is_id};
 use amo_status::State;
 use clap::error::ErrorKind;
 use clap::{ArgMatches, Error};

@@ -27,8 +27,8 @@ pub fn written_moves_are_worst()
     worst_moves_are_worst();
 }
 
-/// States that the schedule that is written is read as these moves, in both versions, if it has no
-/// more moves than a plan may have.
+/// States that the schedule that is written is read as the worst moves, in both versions, if it has
+/// no more moves than a plan may have.
 pub fn schedules_say_the_worst_moves()
     ensures { (version : ℕ) (g : Givens) → length (worst_moves g) ≤ MOST_MOVES
         → read_schedule version g.workers (worst_schedule g) ≡ Ok (worst_moves g) }
