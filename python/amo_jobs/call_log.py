@@ -3,7 +3,6 @@
 
 from __future__ import annotations
 
-import hashlib
 import os
 from typing import NoReturn, Optional
 
@@ -47,6 +46,7 @@ def note(*words: object) -> None:
 def line_text(line: bytes) -> str:
     """Returns a line of a worker as the log shows it: its first three words, and the length and
     the SHA-256 of the rest. A line of fewer words is shown whole."""
+    import hashlib  # which takes long to import, and which no other call needs
     words = line.split(b" ", 3)
     if len(words) < 4:
         return line.decode("utf-8", "replace")

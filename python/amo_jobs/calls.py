@@ -11,18 +11,22 @@ import fcntl
 import os
 import select
 import signal
+import time
 from contextlib import suppress
-from typing import Any, Dict, FrozenSet, List, NamedTuple, Optional, Sequence, Tuple
+from typing import AbstractSet, Any, Callable, Dict, List, NamedTuple, Optional, Tuple
 
 from amo_jobs.call_log import note
 from amo_jobs.library import library
 from amo_jobs.locks import close_all
+from amo_jobs.worker import TEST_BOOT_ID
 
 SET_CHILD_SUBREAPER = 36  # of prctl
 ABOVE = 100  # no process gets one of its files under so high a number
+SIGNALS = (signal.SIGINT, signal.SIGTERM, signal.SIGHUP)  # by which a program is stopped
 IGNORED_BY_PYTHON = (signal.SIGPIPE, signal.SIGXFSZ)  # and handed on by exec, if nobody resets them
-ROOM = 64  # children that are reaped by one call
-LONGEST = 1e6  # seconds of one wait
+LONGEST, PART = 1e6, 512  # seconds of one wait, and bytes of one read
+BOOT_ID = "/proc/sys/kernel/random/boot_id"
+FRONT = 32  # bytes of `pace.P` for the pace; after them each start has a line
 
 
 class Process(NamedTuple):
@@ -31,15 +35,7 @@ class Process(NamedTuple):
     start: int  # in ticks since the machine was started
 
 
-ENDED = (ctypes.c_int * (2 * ROOM + 2))()  # what amo_reap has found
-CHILDREN = (ctypes.c_int * 4096)()  # what amo_children has found
-
-
-def checked(result: int) -> int:
-    """Returns what a call of `calls.c` has returned. Raises OSError if that is an error."""
-    if result < 0:
-        raise OSError(-result, os.strerror(-result))
-    return result
+CHILDREN = (ctypes.c_int * 4096)()  # what amo_others has found
 
 
 def become_subreaper() -> None:
@@ -52,17 +48,21 @@ def become_subreaper() -> None:
 
 
 def open_children() -> int:
-    """Opens the list of this process's children, which `read_children` reads again and again."""
+    """Opens the list of this process's children, which `read_others` reads again and again."""
     path = f"/proc/self/task/{os.getpid()}/children"
     return os.open(path, os.O_RDONLY | os.O_CLOEXEC)
 
 
-def read_children(file: int) -> List[int]:
-    """Returns the numbers of the children in such a list, those that nobody has reaped too.
+def read_others(file: int, known: int = 0) -> List[int]:
+    """Returns the numbers of the children in such a list, those that nobody has reaped too, but
+    without one that is known.
 
     The list is exact for this process's own children, since nobody else reaps them. Raises OSError.
     """
-    return CHILDREN[:checked(library().amo_children(file, CHILDREN, len(CHILDREN)))]
+    count = library().amo_others(file, known, CHILDREN, len(CHILDREN))
+    if count < 0:
+        raise OSError(-count, os.strerror(-count))
+    return CHILDREN[:count]
 
 
 def children_of(number: int) -> List[int]:
@@ -122,17 +122,32 @@ def send(process: Process, number: int) -> None:
             os.close(handle)
 
 
+def keep_from_commands() -> None:
+    """Has exec close the descriptors that the caller of this program left open. (Python's own files
+    are made so.)"""
+    for file in map(int, os.listdir("/proc/self/fd")):
+        with suppress(OSError):
+            os.set_inheritable(file, file < 3)
+
+
+def drawn(low: float, high: float) -> float:
+    """Returns a random number between these two. (The module for that takes long to import.)"""
+    return low + (high - low) * int.from_bytes(os.urandom(4), "big") / (1 << 32)
+
+
 def reap() -> Tuple[Dict[int, int], bool]:
     """Reaps the children that have ended. Returns their statuses by their numbers, and whether any
     child is left. A status below 0 is the negative of a signal."""
     found: Dict[int, int] = {}
-    count = ROOM
-    while count == ROOM:
-        count = library().amo_reap(ENDED, ROOM)
-        for k in range(0, 2 * count, 2):
-            found[ENDED[k]] = os.waitstatus_to_exitcode(ENDED[k + 1])
-            note("gone", ENDED[k])
-    return found, ENDED[2 * count] == 0
+    try:
+        while True:
+            number, status = os.waitpid(-1, os.WNOHANG)
+            if not number:
+                return found, True
+            found[number] = os.waitstatus_to_exitcode(status)
+            note("gone", number)
+    except ChildProcessError:
+        return found, False
 
 
 def spawn(words: List[bytes], files: Dict[int, int]) -> int:
@@ -169,45 +184,64 @@ def signed(path: str) -> int:
     return 0
 
 
-class PolledFile(ctypes.Structure):
-    """What poll(2) calls `struct pollfd`."""
+def this_boot() -> Tuple[str, int]:
+    """Returns the id of this boot, and when it was, in seconds since 1970. Raises OSError."""
+    with open(os.environ.get(TEST_BOOT_ID) or BOOT_ID) as file:
+        return file.read().strip(), int(time.time() - time.clock_gettime(time.CLOCK_BOOTTIME))
 
-    _fields_ = [("file", ctypes.c_int), ("events", ctypes.c_short), ("ready", ctypes.c_short)]
+
+def note_start(run: str, worker: int, what: str) -> None:
+    """Notes in `pace.P` that a process of a worker is about to be started, for a report alone: if
+    it can't be written, it is left out. A line that a kill cuts off doesn't touch the next one. The
+    caller has the lock of this number."""
+    with suppress(OSError), open(f"{run}/pace.{worker}", "ab") as file:
+        boot, booted = this_boot()
+        text = f"\n{what} {int(time.time())} {booted} {boot}"
+        file.write(b" " * (FRONT - file.tell()) + text.encode())
+
+
+def note_pace(run: str, worker: int, begun: float, ended: int) -> None:
+    """Notes since when a runner has been at work, and how many commands have ended."""
+    with suppress(OSError), open(f"{run}/pace.{worker}", "r+b", 0) as file:
+        file.write(b"%19.3f %12d" % (begun, ended))
+
+
+def keep_signals(take: Callable[[int], object]) -> None:
+    """Hands SIGNALS to a call. One that was ignored at the start, as under nohup, stays ignored."""
+    for number in SIGNALS:
+        if number == signal.SIGTERM or signal.getsignal(number) != signal.SIG_IGN:
+            signal.signal(number, lambda number, _: take(number))
 
 
 class Bell:
     """A pipe that wakes a process which waits, whenever a child has ended or a signal has come."""
 
-    def __init__(self, numbers: Sequence[int]):
+    def __init__(self) -> None:
         self.wake, self.ring = os.pipe2(os.O_NONBLOCK | os.O_CLOEXEC)
         self.signals: List[int] = []
-        self.waits_for: Optional[Tuple[List[int], List[int]]] = None
-        self.call = library().amo_wait
+        self.set_files([], [])
         signal.set_wakeup_fd(self.ring, warn_on_full_buffer=False)
         signal.signal(signal.SIGCHLD, lambda *_: None)
-        for number in numbers:
-            # a signal that was ignored at the start, as under nohup, stays ignored
-            if number == signal.SIGTERM or signal.getsignal(number) != signal.SIG_IGN:
-                signal.signal(number, lambda number, _: self.signals.append(number))
+        keep_signals(lambda number: self.signals.append(number))
 
-    def wait(self, reads: List[int], writes: List[int], seconds: float) -> FrozenSet[int]:
+    def wait(self, reads: List[int], writes: List[int], seconds: float) -> AbstractSet[int]:
         """Waits until it rings, one of these files is ready, or so many seconds are over. Returns
         the files that are ready; `wake` is one of them if it has rung. Raises OSError."""
-        if self.waits_for != (reads, writes):
+        if reads != self.reads or writes != self.writes:
             self.set_files(reads, writes)
-        time = int(min(max(seconds, 0), LONGEST) * 1000) + 1
-        bits = self.call(self.polled, self.count, time)
-        if bits not in self.ready:
-            checked(bits)
-            self.ready[bits] = frozenset(it for k, it in enumerate(self.files) if bits >> k & 1)
-        return self.ready[bits]
+        ready = dict(self.poll(1000 * min(max(seconds, 0), LONGEST))).keys()
+        if self.wake in ready:
+            os.read(self.wake, PART)
+        return ready
 
     def set_files(self, reads: List[int], writes: List[int]) -> None:
         """Takes the files that are to be polled."""
-        self.waits_for, self.files = (list(reads), list(writes)), [self.wake, *reads, *writes]
-        events = [select.POLLIN] * (1 + len(reads)) + [select.POLLOUT] * len(writes)
-        self.polled = (PolledFile * len(self.files))(*map(PolledFile, self.files, events))
-        self.count, self.ready = len(self.files), {}  # type: int, Dict[int, FrozenSet[int]]
+        self.reads, self.writes, files = [*reads], [*writes], select.poll()
+        for file in (self.wake, *reads):
+            files.register(file, select.POLLIN)
+        for file in writes:
+            files.register(file, select.POLLOUT)
+        self.poll = files.poll
 
     def taken(self) -> List[int]:
         """Returns the signals that came since the last call, in their order."""

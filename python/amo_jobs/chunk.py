@@ -176,14 +176,12 @@ class Chunk:
     def work(self) -> int:
         """Runs crews until no line is open, and returns the status of the last one. A chunk is over
         only if all of its lines are done. Else the operator may answer, and a next crew runs."""
-        seconds, status = SHORTEST, int(Status.LATER)
         if os.path.exists(f"{self.folder}/over"):
             return Status.DONE
+        seconds, status = SHORTEST, self.run_crew()
         # (the crew was killed, or one lives whose amo_share was killed)
         while status in (Status.LATER, Status.MEMORY) or status < 0:
-            status = self.run_crew()
-            if status in (Status.LATER, Status.MEMORY) or status < 0:
-                seconds = pause(self.sharing, seconds)
+            seconds, status = pause(self.sharing, seconds), self.run_crew()
         is_left = status == Status.DOUBTFUL and self.program.status(self.folder)["open"]
         if is_left or status not in (Status.DONE, Status.FAILED, Status.DOUBTFUL):
             raise End(Status.LEFT if is_left else status,

@@ -45,18 +45,12 @@ import os
 import signal
 import sys
 from contextlib import suppress
-from typing import (
-    Any, Callable, Collection, Dict, FrozenSet, List, Optional, Set, Tuple, Union
-)
+from importlib import import_module
+from typing import Any, Callable, Collection, Dict, FrozenSet, List, Set, Tuple, Union
 
-from amo_jobs import crew
-from amo_jobs.forget import Forgetting
-from amo_jobs.library import library
 from amo_jobs.mark import FIRST_VERSION, ID
 from amo_jobs.messages import End, end_of, Screen, visible
-from amo_jobs.run_folder import check_list, enter, joined, note_command
 from amo_jobs.settings import Settings
-from amo_jobs.status import ANSWERS, again, answer, doubts, status
 from amo_jobs.statuses import Status
 from amo_jobs.worker import Program, boot_id_warning, version
 from amo_watch import commands as watching
@@ -64,15 +58,19 @@ from amo_watch import commands as watching
 RUNS = ("crew", "work")
 
 
-# ---- the commands
+# ---- the commands (each imports its modules before it does anything, and none of the others')
 
 def work(settings: Settings, program: Program) -> int:
     """Performs the commands crew and work. The door is asked before any lock is taken. For a runner
     of a crew its supervisor has done all that."""
+    from amo_jobs.calls import keep_from_commands
+    from amo_jobs.library import library
     keep_from_commands()
     library()  # so that nothing is begun if it can't be built
     if settings.caller:
         return runner(settings, program)
+    from amo_jobs import crew
+    from amo_jobs.run_folder import check_list, enter, joined, note_command
     check_list(settings)
     run = (enter(settings, program, settings.id) if settings.what == "crew" and settings.id
            else joined(settings, program))
@@ -89,26 +87,24 @@ def work(settings: Settings, program: Program) -> int:
 
 def runner(settings: Settings, program: Program) -> int:
     """Runs one worker of a crew, if its supervisor has the version of this program."""
+    from amo_jobs.runner import supervised
     if settings.caller != version():
         raise End(Status.LATER, f"worker {settings.worker}: amo was upgraded from"
                                 f" {visible(settings.caller)} to {version()} while its crew worked;"
                                 " start the crew again")
     program.more += ["--id", settings.id]
-    return crew.supervised(settings, program)
+    return supervised(settings, program)
 
 
-def keep_from_commands() -> None:
-    """Has exec close the descriptors that the caller of this program left open. (Python's own files
-    are made so.)"""
-    for file in map(int, os.listdir("/proc/self/fd")):
-        with suppress(OSError):
-            os.set_inheritable(file, file < 3)
+def late(module: str, name: str) -> Callable[[Settings, Program], Any]:
+    """Returns a command whose module is imported once it is called."""
+    return lambda *given: getattr(import_module(f"amo_jobs.{module}"), name)(*given)
 
 
 CALLS: Dict[str, Callable[[Settings, Program], int]] = {
-    "crew": work, "work": work, "status": status, "doubts": doubts, "answer": answer,
-    "again": again, "forget": lambda settings, program: Forgetting(settings, program).take(),
-    **watching.CALLS
+    "crew": work, "work": work, **watching.CALLS,
+    "forget": lambda *given: late("forget", "Forgetting")(*given).take(),
+    **{name: late("status", name) for name in ("status", "doubts", "answer", "again")},
 }
 
 
@@ -146,92 +142,67 @@ def old_id(word: str) -> str:
     return word
 
 
+def option(commands: Collection[str], words: str, about: str, kind: Callable[[str], Any] = str,
+           **more: Any) -> Tuple[Collection[str], str, Dict[str, Any]]:
+    """Returns an option of these commands. Its words are its name, and what stands for its value if
+    it has one."""
+    name, _, value = words.partition(" ")
+    how = dict(metavar=value, type=kind) if value else dict(action="store_true")
+    return commands, name, dict(how, help=about, **more)
+
+
 # Which commands have an option, and what it is. Settings has the defaults.
 OPTIONS: List[Tuple[Collection[str], str, Dict[str, Any]]] = [
-    ([it for it in CALLS if it != "forget"], "--run",
-     dict(metavar="DIR", help="the folder of the run (default: JOBS.run)")),
-    (["forget"], "--run",
-     dict(metavar="DIR",
-          help="the folder of the run (default: the folder that JOBS.run-is names)")),
-    (CALLS, "--worker-program",
-     dict(metavar="FILE",
-          help="the program amo_worker (default: the one in this program's folder)")),
-    (CALLS, "--file-system",
-     dict(metavar="TYPE",
-          help="also accept a file system of this type (default: ext2, ext3, ext4, xfs, btrfs, f2fs"
-               " and zfs alone)")),
-    (["work"], "--worker",
-     dict(type=within(int, 1, 16), required=True, metavar="P",
-          help="the number of this worker, 1 to M (required)")),
-    (RUNS, "--workers",
-     dict(type=within(int, 1, 16), required=True, metavar="M",
-          help="the number of workers of the run, 1 to 16 (required)")),
-    (RUNS, "--beta",
-     dict(type=within(int, 1, 65535), metavar="B",
-          help="advanced: the threshold of a round; M is used if it is larger (default: 1)")),
-    (RUNS, "--untouched",
-     dict(type=codes, metavar="CODES",
-          help="exit statuses, such as 75,76, by which a command reports that it did nothing"
-               " (default: none)")),
-    (RUNS, "--timeout",
-     dict(type=within(float, 0, 1e8), metavar="S",
-          help="send TERM to a command, and to all that it has started, after S seconds; its line"
-               " is in doubt then (default: never)")),
-    (RUNS, "--grace",
-     dict(type=within(float, 0, 1e8), metavar="S",
-          help="send KILL S seconds after that TERM (default: 10)")),
-    (RUNS, "--linger",
-     dict(type=within(float, 0, 1e8), metavar="S",
-          help="wait S seconds for what a command leaves behind (default: 5)")),
-    (RUNS, "--halt",
-     dict(type=within(int, 0, 10**9), metavar="N",
-          help="stop after N failures in a row; after 10 at most if no line was done before; 0 is"
-               " never (default: those 10 alone)")),
-    (RUNS, "--results",
-     dict(metavar="DIR",
-          help="the folder for the files out.P.S and err.P.S (default: the run's folder)")),
-    (RUNS, "--command-changed",
-     dict(action="store_true",
-          help="go on in a folder that was used with another command (default: refused)")),
-    (RUNS, "--new-run",
-     dict(type=old_id, metavar="OLD-ID",
-          help="give up the run with this id if its folder is missing or is another one, and run"
-               " every line again; 1 names a run of amo 0.1.0 (default: refused)")),
-    (RUNS, "--may-leave",
-     dict(type=names, metavar="NAMES",
-          help="programs that a command may leave behind, such as gpg-agent,ssh; a crew waits for"
-               " all others (default: none)")),
+    option([it for it in CALLS if it != "forget"], "--run DIR",
+           "the folder of the run (default: JOBS.run)"),
+    option(["forget"], "--run DIR",
+           "the folder of the run (default: the folder that JOBS.run-is names)"),
+    option(CALLS, "--worker-program FILE",
+           "the program amo_worker (default: the one in this program's folder)"),
+    option(CALLS, "--file-system TYPE", "also accept a file system of this type (default: ext2,"
+           " ext3, ext4, xfs, btrfs, f2fs and zfs alone)"),
+    option(["work"], "--worker P", "the number of this worker, 1 to M (required)",
+           within(int, 1, 16), required=True),
+    option(RUNS, "--workers M", "the number of workers of the run, 1 to 16 (required)",
+           within(int, 1, 16), required=True),
+    option(RUNS, "--beta B", "advanced: the threshold of a round; M is used if it is larger"
+           " (default: 1)", within(int, 1, 65535)),
+    option(RUNS, "--untouched CODES", "exit statuses, such as 75,76, by which a command reports"
+           " that it did nothing (default: none)", codes),
+    option(RUNS, "--timeout S", "send TERM to a command, and to all that it has started, after S"
+           " seconds; its line is in doubt then (default: never)", within(float, 0, 1e8)),
+    option(RUNS, "--grace S", "send KILL S seconds after that TERM (default: 10)",
+           within(float, 0, 1e8)),
+    option(RUNS, "--linger S", "wait S seconds for what a command leaves behind (default: 5)",
+           within(float, 0, 1e8)),
+    option(RUNS, "--halt N", "stop after N failures in a row; after 10 at most if no line was done"
+           " before; 0 is never (default: those 10 alone)", within(int, 0, 10**9)),
+    option(RUNS, "--results DIR",
+           "the folder for the files out.P.S and err.P.S (default: the run's folder)"),
+    option(RUNS, "--command-changed",
+           "go on in a folder that was used with another command (default: refused)"),
+    option(RUNS, "--new-run OLD-ID",
+           "give up the run with this id if its folder is missing or is another one, and run every"
+           " line again; 1 names a run of amo 0.1.0 (default: refused)", old_id),
+    option(RUNS, "--may-leave NAMES", "programs that a command may leave behind, such as"
+           " gpg-agent,ssh; a crew waits for all others (default: none)", names),
     # the version of the supervisor, for the runners of its crew
-    (["work"], "--as", dict(dest="caller", help=argparse.SUPPRESS)),
+    option(["work"], "--as CALLER", argparse.SUPPRESS, dest="caller"),
     # for amo_share, and for these runners: the folder must have this id, and no mark counts
-    (RUNS, "--id", dict(help=argparse.SUPPRESS)),
-    (["forget"], "--force",
-     dict(action="store_true",
-          help="also if lines are open, running or in doubt (default: refused)")),
-    (["status"], "--json",
-     dict(action="store_true", help="print one JSON object (default: a text)")),
-    (["doubts"], "--json",
-     dict(action="store_true", help="print a JSON list (default: a text)")),
-    (["status"], "--lines",
-     dict(metavar="KIND",
-          help="print the lines of this kind alone: failed, doubt, untouched, running or open"
-               " (default: counts, and each line with an attempt)")),
-    (["status"], "--damaged",
-     dict(action="store_true",
-          help="print what can be read of a run that is refused; no line counts as open"
-               " (default: refuse it)")),
-    (["answer"], "--from",
-     dict(dest="source", metavar="FILE",
-          help="a file of answers, a row each: P.S, LINE, TEXT and done or not-done, with tabs"
-               " between (default: the arguments)")),
-    (["answer"], "--quiet",
-     dict(type=within(int, 0, 10**9), metavar="SECONDS",
-          help="refuse not-done until SECONDS have passed since the attempt ended, since a request"
-               " may arrive late (default: 60)")),
-    (["answer"], "--now",
-     dict(action="store_true",
-          help="take not-done at once, whenever the attempt ended (default: wait as --quiet"
-               " says)")),
+    option(RUNS, "--id ID", argparse.SUPPRESS),
+    option(["forget"], "--force", "also if lines are open, running or in doubt (default: refused)"),
+    option(["status"], "--json", "print one JSON object (default: a text)"),
+    option(["doubts"], "--json", "print a JSON list (default: a text)"),
+    option(["status"], "--lines KIND", "print the lines of this kind alone: failed, doubt,"
+           " untouched, running or open (default: counts, and each line with an attempt)"),
+    option(["status"], "--damaged", "print what can be read of a run that is refused; no line"
+           " counts as open (default: refuse it)"),
+    option(["answer"], "--from FILE", "a file of answers, a row each: P.S, LINE, TEXT and done or"
+           " not-done, with tabs between (default: the arguments)", dest="source"),
+    option(["answer"], "--quiet SECONDS", "refuse not-done until SECONDS have passed since the"
+           " attempt ended, since a request may arrive late (default: 60)", within(int, 0, 10**9)),
+    option(["answer"], "--now",
+           "take not-done at once, whenever the attempt ended (default: wait as --quiet says)"),
     *watching.OPTIONS,
 ]
 # The description of each command, and two examples.
@@ -308,6 +279,7 @@ def refuse_answer(words: List[str]) -> None:
     if len(words) != 4:
         raise End(Status.WORDS, "`answer`: an argument is missing; give P.S LINE TEXT and done or"
                                 " not-done, or --from FILE")
+    from amo_jobs.status import ANSWERS
     if words[3] not in ANSWERS:
         raise End(Status.WORDS, f"answer `{visible(words[3])}`: it isn't done or not-done; give one"
                                 " of these last, and options before --")

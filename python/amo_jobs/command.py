@@ -8,13 +8,13 @@ from __future__ import annotations
 
 import os
 from contextlib import suppress
-from typing import Collection, FrozenSet, List, Optional
+from typing import FrozenSet, List, Optional, Sequence
 
 from amo_jobs.call_log import note
 from amo_jobs.calls import files_of, Process
-from amo_jobs.locks import close_all, locked, remove_if_free
+from amo_jobs.locks import close_all, locked
 from amo_jobs.messages import lowered, reason
-from amo_jobs.processes import Family
+from amo_jobs.processes import Family, NOBODY
 from amo_jobs.runner_state import Rest
 from amo_jobs.starter import LOCK, OUTPUTS, Starter
 
@@ -31,16 +31,17 @@ class Command:
 
     def __init__(self, starter: Starter, family: Family, serial: int, line: int):
         self.starter, self.family, self.serial, self.line = starter, family, serial, line
-        self.name = f"{starter.worker}.{serial}"
-        self.path, self.locks = starter.path(LOCK, serial), []  # type: str, List[int]
-        self.process, self.before = 0, frozenset()  # type: int, FrozenSet[Process]
+        self.name, self.path = f"{starter.worker}.{serial}", starter.path(LOCK, serial)
+        self.locks: List[int] = []
+        self.process, self.before = 0, NOBODY
+        self.status: Optional[int] = None  # of a process that has ended with its start
         self.until: Optional[FrozenSet[Process]] = None  # what was there as the next one began
-        self.uses_outputs = True
-        self.outputs: List[str] = []  # those that stay with an attempt of which something is left
+        # The outputs that stay with an attempt of which something is left. None: the starter's.
+        self.outputs: Optional[List[str]] = None
 
-    def start(self, text: bytes, known: Collection[int]) -> None:
+    def start(self, text: bytes, known: Sequence[int]) -> None:
         """Starts the command of a line, whose lock is made and held before. `known` are the
-        runner's other children.
+        runner's other children. If the command was short, `status` is how it has ended.
 
         Raises NotStarted only if no process was made, or if the child could not become the command
         and was reaped. Whatever fails after that, the command counts as begun: the line of a
@@ -57,14 +58,14 @@ class Command:
                                    " command, and start again with --command-changed")
         self.locks = self.starter.take_lock()
         note("started", self.name, self.process)
+        if self.starter.given.status >= 0:
+            self.status = os.waitstatus_to_exitcode(self.starter.given.status)
+            note("gone", self.process)
 
     def not_started(self, why: str) -> NotStarted:
         """Gives the lock and the outputs up, and returns the reason. If the lock's file stays, it
         counts as a missing one: nobody holds its lock."""
         self.starter.remove()
-        self.locks = self.starter.take_lock()
-        if self.locks:
-            self.remove_lock()
         return NotStarted(why)
 
     def ended(self) -> None:
@@ -73,21 +74,23 @@ class Command:
         self.process = 0
         close_all(self.locks)
 
-    def left(self, known: Collection[int], is_shared: bool = False) -> List[Process]:
+    def left(self, known: Sequence[int], is_shared: bool = False) -> List[Process]:
         """Returns the processes of this attempt, the command's own among them. What loses its
         parent once the next command was begun may belong to either: it counts for both, but if
         `is_shared` is true, it isn't returned. Raises OSError."""
         among = self.until if is_shared else None
         return self.family.rest(self.before, known, self.process, among)
 
-    def rest(self, known: Collection[int]) -> Rest:
+    def rest(self, known: Sequence[int]) -> Rest:
         """Looks what is left of this attempt, once the process of its command has ended. If nothing
-        is, removes the lock's file. If a descendant is left and the lock is free, takes it again,
+        is, gives up the lock's file. If a descendant is left and the lock is free, takes it again,
         so that nobody can find it free."""
+        if self.outputs is None and self.starter.is_over(self.serial, self.family.file, known):
+            return Rest.NOTHING
         try:
-            left = self.left(known)
+            left = self.family.rest(self.before, known)
             if not left:
-                is_over = self.remove_lock()
+                is_over = self.free_lock()
                 self.release_outputs(is_over)
                 return Rest.NOTHING if is_over else Rest.SEEN
             self.release_outputs(False)
@@ -100,8 +103,7 @@ class Command:
 
     def release_outputs(self, is_over: bool) -> None:
         """Leaves the outputs to this attempt, or to the next one. Removes empty ones at the end."""
-        if self.uses_outputs:
-            self.uses_outputs = False
+        if self.outputs is None:
             self.outputs = [] if is_over else [self.starter.path(it, self.serial)
                                                for it in OUTPUTS.values()]
             self.starter.keep(is_over)
@@ -110,11 +112,11 @@ class Command:
                 if os.path.getsize(path) == 0:
                     os.unlink(path)
 
-    def remove_lock(self) -> bool:
-        """Removes the lock's file, unless a handle that is opened anew doesn't get the lock.
+    def free_lock(self) -> bool:
+        """Gives up the lock's file, unless a handle that is opened anew doesn't get the lock.
         Returns whether that is so."""
         if not self.locks:
-            return remove_if_free(self.path)
+            return self.starter.free(self.serial)
         with suppress(OSError):
             os.unlink(self.path)
         close_all(self.locks)

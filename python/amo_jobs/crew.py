@@ -7,23 +7,23 @@ event is in `crew_rules`.
 from __future__ import annotations
 
 import os
-import random
 import sys
 from time import monotonic, sleep
-from typing import Dict, FrozenSet, List, Optional
+from typing import AbstractSet, Dict, List, Optional
 
 from amo_jobs import calls, crew_rules, reports
 from amo_jobs.crew_rules import (
     End, Event, LetGo, Locked, Number, Occupied, Order, Orphans, Pause, PauseOver, Phase,
     Reported, RunnerEnded, Say, SignalOrphans, Signalled, Start, State
 )
-from amo_jobs.desk import Desk, event_of, SupervisedDesk
+from amo_jobs.desk import Desk, event_of, LOCK, ORDERS, REPORTS
 from amo_jobs.locks import close_all, locked, locked_soon, PATIENCE
 from amo_jobs.messages import End as Refusal, reason, Screen, visible
 from amo_jobs.pipes import Child
 from amo_jobs.processes import described, Family, has_open, Signals
 from amo_jobs.progress import Progress
-from amo_jobs.runner import Runner, SIGNALS
+from amo_jobs.runner import Runner
+from amo_jobs.runner_state import BY_CREW
 from amo_jobs.settings import next_command, Settings
 from amo_jobs.statuses import Status
 from amo_jobs.worker import HERE, Program
@@ -31,7 +31,6 @@ from amo_jobs.worker import HERE, Program
 # Seconds until a lock is tried or an order is sent again, and until a lock is after some seconds.
 SOON, LATER = 0.05, 0.5
 TOGETHER = 0.005  # seconds; reports that come meanwhile wake the supervisor once
-LOCK, REPORTS, ORDERS = 3, 4, 5  # a runner's files
 
 
 def words_of(settings: Settings, program: str) -> List[str]:
@@ -56,21 +55,13 @@ def work(settings: Settings, program: Program) -> int:
         Screen.tell(f"worker {worker}: another runner has its number; wait until that crew has"
                     f" ended, or stop it (status {Status.LATER:d})")
         return progress.conclude(Status.LATER)
+    calls.note_start(settings.run, worker, BY_CREW)
     crew_rules.take(state, Locked(worker))
     desk = OwnDesk(worker, state, progress)
     Runner(settings, program, worker, desk).run()
     close_all([lock])  # no worker is started any more
     desk.take(RunnerEnded(worker, 0))
     return progress.conclude(desk.status)
-
-
-def supervised(settings: Settings, program: Program) -> int:
-    """Runs one worker of a crew in this process, and returns the status. The lock of its number
-    came with the process."""
-    for file in (LOCK, REPORTS, ORDERS):
-        os.set_inheritable(file, False)
-    desk = SupervisedDesk(settings.worker, REPORTS, ORDERS)
-    return max(Runner(settings, program, settings.worker, desk).run(), Status.DONE)
 
 
 class OwnDesk(Desk):
@@ -112,7 +103,7 @@ class Crew:
                            {it: Number() for it in range(1, settings.workers + 1)})
         self.lock = self.take_crew()
         self.family, self.signals = Family(settings.may_leave), Signals(Screen.tell)
-        self.bell = calls.Bell(SIGNALS)
+        self.bell = calls.Bell()
         self.progress = Progress(settings, program, self.state)
         self.locks: Dict[int, int] = {}
         self.posts: Dict[int, Child] = {}  # the runners that live
@@ -158,7 +149,7 @@ class Crew:
                 del self.pauses[worker]
                 self.feed(PauseOver(worker))
 
-    def poll(self) -> FrozenSet[int]:
+    def poll(self) -> AbstractSet[int]:
         """Waits for reports, signals, ends of children, and times."""
         if self.is_over:
             return frozenset()
@@ -228,9 +219,9 @@ class Crew:
             elif isinstance(action, Order) and action.worker in self.posts:
                 self.posts[action.worker].input.send(f"{action.text}\n".encode())
             elif isinstance(action, Start):
-                self.start(action.worker)
+                self.start(action.worker, action.what)
             elif isinstance(action, Pause):  # which differs each time
-                seconds = random.uniform(action.seconds / 2, action.seconds)
+                seconds = calls.drawn(action.seconds / 2, action.seconds)
                 self.pauses[action.worker] = monotonic() + seconds
             elif isinstance(action, LetGo) and action.worker in self.locks:
                 close_all([self.locks.pop(action.worker)])
@@ -239,8 +230,9 @@ class Crew:
             elif isinstance(action, End):
                 self.is_over, self.status = True, action.status
 
-    def start(self, worker: int) -> None:
-        """Starts a runner."""
+    def start(self, worker: int, what: str) -> None:
+        """Notes the start of a runner, and starts it."""
+        calls.note_start(self.settings.run, worker, what)
         words = [sys.executable, "-I", "-S", f"{HERE}/amo_jobs", "work", f"--as={self.version}",
                  f"--worker={worker}", *words_of(self.settings, self.program.path)]
         try:

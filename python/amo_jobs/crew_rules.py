@@ -8,14 +8,13 @@ work` has it, is a crew of one number that runs in the same process.
 from __future__ import annotations
 
 import signal
-from dataclasses import dataclass, field
 from enum import Enum
 from typing import Any, Callable, Dict, List, NamedTuple, Optional, Union
 
 from amo_jobs import reports
 from amo_jobs.messages import visible
 from amo_jobs.reports import Report
-from amo_jobs.runner_state import LONGEST, SHORTEST
+from amo_jobs.runner_state import BY_CREW, LONGEST, RUNNER_AGAIN, SHORTEST
 from amo_jobs.settings import Settings
 from amo_jobs.statuses import Status
 
@@ -47,72 +46,58 @@ class Phase(Enum):
     ENDED = 4
 
 
-# The supervisor has got the lock of a number.
-Locked = NamedTuple("Locked", [("worker", int)])
+Locked = NamedTuple("Locked", [("worker", int)])  # the lock of a number was got
 # Another runner has had that lock for some seconds. 0: its process isn't known.
 Occupied = NamedTuple("Occupied", [("worker", int), ("process", int)])
-# A runner reports.
-Reported = NamedTuple("Reported", [("worker", int), ("report", Report)])
+Reported = NamedTuple("Reported", [("worker", int), ("report", Report)])  # a runner reports
 # A runner has ended. A code below 0 is the negative of a signal.
 RunnerEnded = NamedTuple("RunnerEnded", [("worker", int), ("code", int)])
-# A pause is over.
 PauseOver = NamedTuple("PauseOver", [("worker", int)])
 # The supervisor has looked at its children that are no runners. `unseen` names those of them that
 # don't hold the lock of a command, so that nobody else sees them.
 Orphans = NamedTuple("Orphans", [("are_there", bool), ("unseen", str)])
-# The supervisor got a signal.
-Signalled = NamedTuple("Signalled", [("number", int)])
+Signalled = NamedTuple("Signalled", [("number", int)])  # the supervisor got a signal
 Event = Union[Locked, Occupied, Reported, RunnerEnded, PauseOver, Orphans, Signalled]
 
-# Start the runner of a number.
-Start = NamedTuple("Start", [("worker", int)])
-# Give a runner an order.
-Order = NamedTuple("Order", [("worker", int), ("text", str)])
-# Print a message.
-Say = NamedTuple("Say", [("text", str)])
+# Start the runner of a number: the first one, or one more.
+Start = NamedTuple("Start", [("worker", int), ("what", str)])
+Order = NamedTuple("Order", [("worker", int), ("text", str)])  # give a runner an order
+Say = NamedTuple("Say", [("text", str)])  # print a message
 # Have a PauseOver come after a random part of so many seconds.
 Pause = NamedTuple("Pause", [("worker", int), ("seconds", float)])
-# Close the handle of a number's lock.
-LetGo = NamedTuple("LetGo", [("worker", int)])
+LetGo = NamedTuple("LetGo", [("worker", int)])  # close the handle of a number's lock
 # Send a signal to the children that are no runners, and to all below them.
 SignalOrphans = NamedTuple("SignalOrphans", [("number", int)])
-# End with this status. None: the counts of the lines decide.
-End = NamedTuple("End", [("status", Optional[int])])
+End = NamedTuple("End", [("status", Optional[int])])  # None: the counts of the lines decide
 Action = Union[Start, Order, Say, Pause, LetGo, SignalOrphans, End]
 Actions = List[Action]
 
 
-@dataclass
 class Number:
     """A number of the crew."""
 
-    phase: Phase = Phase.LOCKS
-    pause: float = SHORTEST / 2
-    status: Optional[int] = None  # of its worker at last, or of a runner that failed
-    has_begun: bool = False  # whether it ever had a runner
-    is_refused: bool = False  # whether the status is one that the operator has to look at
-    running: int = 0  # the attempt whose command has run for a moment
-    waits: bool = False  # its runner waits for processes that only it sees
-    is_told: bool = False  # that another runner has its lock
+    def __init__(self) -> None:
+        self.phase, self.pause = Phase.LOCKS, SHORTEST / 2
+        self.status: Optional[int] = None  # of its worker at last, or of a runner that failed
+        self.has_begun = False  # whether it ever had a runner
+        self.is_refused = False  # whether the status is one that the operator has to look at
+        self.running = 0  # the attempt whose command has run for a moment
+        self.waits = False  # its runner waits for processes that only it sees
+        self.is_told = False  # that another runner has its lock
 
 
-@dataclass
 class State:
     """What a supervisor knows."""
 
-    settings: Settings = field(repr=False)
-    status_command: str  # of this run, for the operator
-    numbers: Dict[int, Number]
-    is_stopping: bool = False
-    asked: int = 0  # signals
-    ended: int = 0
-    good: int = 0
-    row: int = 0  # failures in a row
-    taken: int = 0  # lines against which another attempt stands
-    has_orphans: bool = False
-    unseen: str = ""
-    has_told_unseen: bool = False
-    is_over: bool = False
+    def __init__(self, settings: Settings, status_command: str, numbers: Dict[int, Number]):
+        """Takes the command for the operator that shows the status of this run, too."""
+        self.settings, self.status_command, self.numbers = settings, status_command, numbers
+        self.is_stopping = False
+        self.asked = self.ended = self.good = 0  # signals, ends, and the good ones of these
+        self.row = 0  # failures in a row
+        self.taken = 0  # lines against which another attempt stands
+        self.has_orphans, self.unseen, self.has_told_unseen = False, "", False
+        self.is_over = False
 
     def running(self) -> List[str]:
         """Returns the names of the attempts whose commands have run for a moment."""
@@ -130,7 +115,7 @@ def locked(state: State, it: Locked) -> Actions:
     if state.is_stopping or number.phase is not Phase.LOCKS:
         return [LetGo(it.worker)]
     number.phase, number.has_begun = Phase.RUNS, True
-    return [Start(it.worker)]
+    return [Start(it.worker, BY_CREW)]
 
 
 def occupied(state: State, it: Occupied) -> Actions:
@@ -203,6 +188,11 @@ def noted(state: State, worker: int, report: Report) -> Actions:
     return [*orders, Say(text)] if text else orders
 
 
+def news(state: State, worker: int, report: Report) -> Actions:
+    """Has the other workers that wait for a round try at once."""
+    return [it for it in orders(state, reports.NEWS) if it.worker != worker]
+
+
 def was_taken(state: State, worker: int, report: Report) -> Actions:
     """Prints that a line was not started, since another attempt stands against it. Of many such
     messages the first are enough; the end has the count of the others."""
@@ -263,7 +253,7 @@ def runner_ended(state: State, it: RunnerEnded) -> Actions:
                    " started is left"))]
 
 
-def orders(state: State, text: str) -> Actions:
+def orders(state: State, text: str) -> List[Order]:
     """Gives all living runners an order."""
     return [Order(worker, text) for worker, it in state.numbers.items() if it.phase is Phase.RUNS]
 
@@ -274,7 +264,7 @@ def pause_over(state: State, it: PauseOver) -> Actions:
     if number.phase is not Phase.PAUSES:
         return []
     number.phase = Phase.DEAD if state.has_orphans else Phase.RUNS
-    return [] if state.has_orphans else [Start(it.worker)]
+    return [] if state.has_orphans else [Start(it.worker, RUNNER_AGAIN)]
 
 
 def orphans(state: State, it: Orphans) -> Actions:
@@ -342,7 +332,7 @@ def signalled(state: State, it: Signalled) -> Actions:
 
 REPORTS: Dict[str, Callable[[State, int, Report], Actions]] = {
     reports.ENDED: command_ended, reports.UNBEGUN: unbegun, reports.TAKEN: was_taken,
-    reports.ASKED: asked, reports.OVER: over,
+    reports.ASKED: asked, reports.OVER: over, reports.ROUND: news,
 }
 HANDLERS: Dict[type, Callable[[State, Any], Actions]] = {
     Locked: locked, Occupied: occupied, Reported: reported, RunnerEnded: runner_ended,

@@ -5,7 +5,7 @@ from __future__ import annotations
 
 import os
 from math import inf
-from typing import FrozenSet, List, Tuple
+from typing import AbstractSet, List, Tuple
 
 from amo_jobs import reports
 from amo_jobs.messages import Screen
@@ -13,13 +13,14 @@ from amo_jobs.pipes import Reader, Writer
 from amo_jobs.reports import Report
 from amo_jobs.runner_state import Event, PassOn, Plain
 
-ORDERS = {reports.GO: Plain.ACKNOWLEDGED, reports.STOP: Plain.STOP, reports.NEWS: Plain.NEWS}
+LOCK, REPORTS, ORDERS = 3, 4, 5  # a runner's files, if it has a supervisor
+EVENTS = {reports.GO: Plain.ACKNOWLEDGED, reports.STOP: Plain.STOP, reports.NEWS: Plain.NEWS}
 
 
 def event_of(order: str) -> Event:
     """Returns the event that an order is."""
     word, _, number = order.partition(" ")
-    return PassOn(int(number)) if word == reports.PASS else ORDERS[word]
+    return PassOn(int(number)) if word == reports.PASS else EVENTS[word]
 
 
 class Desk:
@@ -36,7 +37,7 @@ class Desk:
         """Returns what is to be polled: to be read, and to be written."""
         return [], []
 
-    def exchange(self, ready: FrozenSet[int]) -> None:
+    def exchange(self, ready: AbstractSet[int]) -> None:
         """Takes the orders that there are, and sends what could not be sent before."""
 
     def report(self, report: Report) -> None:
@@ -59,7 +60,7 @@ class SupervisedDesk(Desk):
     def files(self) -> Tuple[List[int], List[int]]:
         return self.orders.files, self.out.files if self.out.unsent else []
 
-    def exchange(self, ready: FrozenSet[int]) -> None:
+    def exchange(self, ready: AbstractSet[int]) -> None:
         if not ready.isdisjoint(self.orders.files):
             self.events += [event_of(it.decode()) for it in self.orders.lines()]
             if not self.orders.files:

@@ -4,8 +4,6 @@ from __future__ import annotations
 
 import ctypes
 import os
-import shlex
-import subprocess
 import zlib
 from functools import lru_cache
 
@@ -39,6 +37,8 @@ def built() -> str:
 
 def build(path: str) -> None:
     """Has the C compiler build the calls."""
+    import shlex  # only a clone needs both, once
+    import subprocess
     compiler = shlex.split(os.environ.get("CC", "cc"))
     try:
         ran = subprocess.run([*compiler, *OPTIONS, "-o", path, SOURCE], stdin=subprocess.DEVNULL,

@@ -3,14 +3,12 @@
 from __future__ import annotations
 
 import os
-import sys
 import time
 from typing import List, Optional
 
 from amo_jobs.library import library
 
 NOT_GOT = -4096  # of calls.c
-ENCODING = sys.getfilesystemencoding(), sys.getfilesystemencodeerrors()
 PATIENCE = 5.0  # seconds for which a lock is tried
 
 
@@ -28,17 +26,12 @@ def locked(path: str, makes: bool) -> Optional[int]:
     """Takes the exclusive lock of a file, and returns its handle; None if another process has the
     lock, or if the name has gone to another file. Nothing is synced: a lock doesn't outlive the
     machine, so its file needn't either. If `makes` is true, a missing file is made."""
-    got: int = library().amo_lock(path.encode(*ENCODING), makes)
+    got: int = library().amo_lock(os.fsencode(path), makes)
     if got >= 0:
         return got
     if got != NOT_GOT:
         raise OSError(-got, os.strerror(-got), path)
     return None
-
-
-def remove_if_free(path: str) -> bool:
-    """Returns whether nobody has the lock of a command, and removes its file then (`calls.c`)."""
-    return bool(library().amo_remove_if_free(path.encode(*ENCODING)))
 
 
 def locked_soon(path: str, makes: bool = False, end: Optional[float] = None) -> Optional[int]:

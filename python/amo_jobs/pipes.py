@@ -26,7 +26,7 @@ class Reader:
         OSError."""
         data, size = self.rest, PART
         try:
-            while self.files and size == PART:
+            while size == PART and self.files:
                 part = os.read(self.files[0], PART)
                 data, size = data + part, len(part)
                 if not part:

@@ -17,7 +17,8 @@ from amo_jobs.calls import Process
 from amo_jobs.messages import lowered, visible
 
 MOST_SWEEPS = 20  # by which a signal follows processes that start others meanwhile
-INTERPRETER = re.compile(r"(?:|ba|da|k|z)sh|(?:python|perl|ruby|php|lua|node)[\d.]*")
+INTERPRETER = r"(?:|ba|da|k|z)sh|(?:python|perl|ruby|php|lua|node)[\d.]*"
+NOBODY: FrozenSet[Process] = frozenset()
 
 
 class Family:
@@ -29,17 +30,18 @@ class Family:
         calls.become_subreaper()
         self.may_leave, self.file = frozenset(may_leave), calls.open_children()
 
-    def others(self, known: Collection[int]) -> List[int]:
+    def others(self, known: Sequence[int]) -> List[int]:
         """Returns the children, the dead ones too, without these numbers. Raises OSError."""
-        found = calls.read_children(self.file)
-        return [] if found == known else [it for it in found if it not in known]
+        found = calls.read_others(self.file, known[0] if known else 0)
+        return [it for it in found if it not in known] if found else found
 
-    def snapshot(self, known: Collection[int]) -> FrozenSet[Process]:
+    def snapshot(self, known: Sequence[int]) -> FrozenSet[Process]:
         """Returns the children, without these numbers, so that later ones can be told from them.
         Raises OSError."""
-        return frozenset(named_children(self.others(known)))
+        numbers = self.others(known)
+        return frozenset(named_children(numbers)) if numbers else NOBODY
 
-    def rest(self, before: Collection[Process], known: Collection[int], own: int = 0,
+    def rest(self, before: Collection[Process], known: Sequence[int], own: int = 0,
              among: Optional[Collection[Process]] = None) -> List[Process]:
         """Returns the children that came after a snapshot, and all below them, without those that
         a command may leave behind and all below those. `own` is the command itself. If `among` is
@@ -128,7 +130,7 @@ def words_that_tell(words: List[str]) -> str:
     its program, or of the script that an interpreter runs."""
     words = words or ["no words"]
     name, place = os.path.basename(words[0]), 0
-    if INTERPRETER.fullmatch(name) and len(words) > 1:
+    if re.fullmatch(INTERPRETER, name) and len(words) > 1:
         is_code = words[1][-1:] in ("c" if name.endswith("sh") else "cemrEn")
         place = 1 if words[1][:1] != "-" else 2 if "/" in "".join(words[2:3]) and not is_code else 0
     text = visible(" ".join([os.path.basename(words[place]), *words[place + 1:]]).strip())

@@ -8,6 +8,7 @@ from typing import Any, Deque, Dict, Optional, Tuple
 
 from amo_jobs.crew_rules import MOST_TAKEN, State
 from amo_jobs.messages import Screen
+from amo_jobs.pipes import PART
 from amo_jobs.settings import next_command, Settings
 from amo_jobs.status import counted, listed, outlook, status_of
 from amo_jobs.statuses import KINDS, Status
@@ -40,8 +41,8 @@ class Progress:
         self.settings, self.program, self.state = settings, program, state
         self.recent, self.due = Recent(monotonic()), 0.0
         self.before: Dict[str, Any] = program.status(settings.run)
-        with open(settings.jobs, "rb") as file:
-            self.lines = sum(1 for _ in file)
+        with open(settings.jobs, "rb", 0) as file:
+            self.lines = sum(part.count(b"\n") for part in iter(lambda: file.read(PART), b""))
 
     def show(self) -> float:
         """Shows how far the crew is, once that is due, and returns when it is due again."""

@@ -128,14 +128,14 @@ def check_beside(settings: Settings, remedy: str) -> None:
 def check_not_renamed(settings: Settings) -> None:
     """Refuses a list without a mark that begins with the lines of a run whose list is missing: the
     list was renamed, and its mark wasn't."""
-    above, jobs = os.path.dirname(settings.jobs), bytes_of(settings.jobs) or b""
+    above = os.path.dirname(settings.jobs)
     for name in sorted(os.listdir(above)):
         old = f"{above}/{name.removesuffix('.run-is')}"
         if not name.endswith(".run-is") or os.path.lexists(old):
             continue
         mark = Mark.read(f"{old}.run-is")
         known = bytes_of(f"{mark.folder}/jobs") if mark and mark.folder else None
-        if mark and known and jobs.startswith(known):
+        if mark and known and (bytes_of(settings.jobs) or b"").startswith(known):
             words = shlex.join(["mv", f"{old}.run-is", settings.mark])
             raise refused(f"list `{settings.asked}`: it has the lines of the missing list `{old}`,"
                           f" whose run is in `{mark.folder}`; if the list was renamed, rename its"

@@ -17,7 +17,7 @@ from amo_jobs.runner_state import (
     Looked, MOMENT, PassOn, PAUSE, PERFORM, Plain, Rest, Said, Send, SHORTEST, StartFailed,
     StartWorker, State, STAY, Tell, TIMEOUT, Wait, WAS, WorkerEnded
 )
-from amo_jobs.statuses import Status
+from amo_jobs.statuses import IN_ORDER, Status
 
 KILL_AGAIN = 0.5  # seconds after which KILL is sent once more to what is still there
 A_MOMENT = 0.2  # seconds after which a command is reported as running
@@ -35,7 +35,7 @@ def take(state: State, event: Event) -> Actions:
 def start_worker(state: State) -> Actions:
     """Starts the worker. A runner does that first."""
     state.is_pausing, state.has_worker, state.last = False, True, None
-    return [StartWorker()]
+    return [StartWorker(state.status not in IN_ORDER)]
 
 
 def said(state: State, it: Said) -> Actions:
@@ -51,10 +51,25 @@ def said(state: State, it: Said) -> Actions:
     state.asks = it
     if it.kind == PERFORM:
         state.has_said = True
-        return go_on(state)
+        return go_on(state) if state.is_in_round else [*go_on(state), turn_of_round(state)]
     if it.kind == WAS:
         return was_asked(state, it.serial)
-    return way(state, "leave") if state.is_stopping or state.found else [pause(state)]
+    return over(state)
+
+
+def over(state: State) -> Actions:
+    """Has a worker whose part of the round is over wait, or leave. If it has performed a line since
+    it waited, it goes on at once, since it may be the last one of the round."""
+    if state.is_stopping or state.found:
+        return way(state, "leave")
+    return [*way(state, "go"), turn_of_round(state)] if state.is_in_round else [pause(state)]
+
+
+def turn_of_round(state: State) -> Tell:
+    """Reports that the worker has its first line of a round, or that its part is over: the workers
+    that wait may go on then."""
+    state.is_in_round = not state.is_in_round
+    return Tell(Report(reports.ROUND))
 
 
 def note(state: State, is_past: bool) -> None:
@@ -246,8 +261,8 @@ def unanswered(state: State, _: Plain) -> Actions:
 
 def worker_ended(state: State, it: WorkerEnded) -> Actions:
     """Takes the end of the worker. A line that waits is surely not begun."""
-    asks, state.asks, state.has_worker = state.asks, None, False
-    if it.status in (Status.DONE, Status.LEFT, Status.LATER):
+    asks, state.asks, state.has_worker, state.is_in_round = state.asks, None, False, False
+    if it.status in IN_ORDER:
         note(state, it.status == Status.DONE)
     if asks and asks.kind == PERFORM and asks.serial != state.current:
         state.seen[asks.serial] = f"unbegun {asks.serial}"

@@ -3,7 +3,6 @@ has the rules between them."""
 
 from __future__ import annotations
 
-from dataclasses import dataclass, field
 from enum import Enum
 from typing import Collection, Dict, NamedTuple, Optional, Tuple, Union
 
@@ -14,6 +13,8 @@ from amo_jobs.statuses import Status
 SHORTEST, LONGEST = 0.1, 4.0  # seconds of a pause
 PERFORM, WAS, STAY = "perform", "was", "over"  # what a worker says
 PAUSE, TIMEOUT, GRACE, LINGER, MOMENT = "pause", "timeout", "grace", "linger", "moment"  # timers
+# The starts that are noted: a crew's first one of a runner, one more, one more of the worker.
+BY_CREW, RUNNER_AGAIN, WORKER_AGAIN = "crew", "runner", "worker"
 
 
 class Rest(Enum):
@@ -33,7 +34,7 @@ class Plain(Enum):
     HELD = 3  # a report isn't sent yet: the supervisor's pipe is full
     SENT = 4  # all reports are sent
     DESERTED = 5  # the supervisor is gone
-    NEWS = 6  # another runner has ended
+    NEWS = 6  # another runner has ended, or its worker has begun a round or is over with it
 
 
 class Said(NamedTuple):
@@ -54,40 +55,33 @@ StartFailed = NamedTuple("StartFailed", [("why", str)])
 CommandEnded = NamedTuple("CommandEnded", [("status", Optional[int])])
 # The runner has looked what is left of an attempt of its number.
 Looked = NamedTuple("Looked", [("serial", int), ("rest", Rest)])
-# A time is over.
-Elapsed = NamedTuple("Elapsed", [("timer", str), ("serial", int)])
-# A further signal has come, which is for the commands.
-PassOn = NamedTuple("PassOn", [("number", int)])
+Elapsed = NamedTuple("Elapsed", [("timer", str), ("serial", int)])  # a time is over
+PassOn = NamedTuple("PassOn", [("number", int)])  # a further signal, which is for the commands
 Event = Union[Plain, Said, WorkerEnded, StartFailed, CommandEnded, Looked, Elapsed, PassOn]
 
-# Start the worker.
-StartWorker = NamedTuple("StartWorker", [])
-# Answer the worker.
-Answer = NamedTuple("Answer", [("text", str)])
+# Start the worker. `has_failed`: it was killed, or has failed, before that.
+StartWorker = NamedTuple("StartWorker", [("has_failed", bool)])
+Answer = NamedTuple("Answer", [("text", str)])  # answer the worker
 # Start the command of a line. If that fails, the next event is StartFailed.
 Begin = NamedTuple("Begin", [("serial", int), ("line", int), ("text", bytes)])
-# Look what is left of an attempt. The next event is Looked.
-Look = NamedTuple("Look", [("serial", int)])
+Look = NamedTuple("Look", [("serial", int)])  # what is left of an attempt: Looked comes next
 # Have an Elapsed come after so many seconds, and a pause after a random part of them.
 Wait = NamedTuple("Wait", [("timer", str), ("serial", int), ("seconds", float)])
-# Send a signal to all that is left of an attempt.
-Send = NamedTuple("Send", [("serial", int), ("number", int)])
-# Report to the supervisor.
-Tell = NamedTuple("Tell", [("report", Report)])
-# End, with the worker's last status.
-End = NamedTuple("End", [("status", int)])
+Send = NamedTuple("Send", [("serial", int), ("number", int)])  # a signal to all that is left
+Tell = NamedTuple("Tell", [("report", Report)])  # report to the supervisor
+End = NamedTuple("End", [("status", int)])  # end, with the worker's last status
 Action = Union[StartWorker, Answer, Begin, Look, Wait, Send, Tell, End]
 
 
-@dataclass
 class Attempt:
     """An attempt of this runner, until nothing of it is left."""
-    line: int
-    status: Optional[int] = None  # of the command's process, once it has ended
-    is_late: bool = False  # TERM was sent, since its time was over
-    is_killed: bool = False  # KILL was sent
-    has_lingered: Optional[bool] = None  # None: it isn't waited for yet
-    rest: Rest = Rest.UNSEEN
+
+    def __init__(self, line: int, status: Optional[int] = None):
+        self.line, self.status = line, status  # the status of its process, once that has ended
+        self.is_late = False  # TERM was sent, since its time was over
+        self.is_killed = False  # KILL was sent
+        self.has_lingered: Optional[bool] = None  # None: it isn't waited for yet
+        self.rest = Rest.UNSEEN
 
     def outcome(self, untouched: Collection[int]) -> Tuple[str, int]:
         """Returns what came of it. Any status counts as performed. An end by a signal is a doubt,
@@ -97,33 +91,33 @@ class Attempt:
         return ("untouched" if self.status in untouched else "done"), self.status
 
 
-@dataclass
 class State:
     """What a runner knows."""
-    settings: Settings = field(default_factory=Settings, repr=False)
-    has_worker: bool = False
-    is_pausing: bool = False  # before the worker is started again
-    asks: Optional[Said] = None  # the line of the worker that has no answer yet
-    last: Optional[int] = None  # the attempt whose answer was the worker's last one
-    top: Optional[int] = None  # the highest attempt that a worker of this runner has said
-    has_said: bool = False  # whether the worker has said something new since the last pause
-    pause: float = SHORTEST / 2
-    # The ends of attempts: those that aren't recorded yet, those of them that no worker has asked
-    # for, and what is to be reported once a worker has the answer.
-    seen: Dict[int, str] = field(default_factory=dict)
-    found: Dict[int, str] = field(default_factory=dict)
-    untold: Dict[int, Report] = field(default_factory=dict)
-    attempts: Dict[int, Attempt] = field(default_factory=dict)
-    current: Optional[int] = None  # the attempt that the worker waits for
-    is_stopping: bool = False
-    is_held: bool = False
-    is_unacknowledged: bool = False
-    is_last_wait: bool = False  # nothing is to be done, but for what is left and unseen
-    status: int = Status.LATER
-    message: str = ""
-    warned: Optional[int] = None
-    is_over: bool = False
+
+    def __init__(self, settings: Settings):
+        self.settings = settings
+        self.has_worker = False
+        self.is_pausing = False  # before the worker is started again
+        self.is_in_round = False  # whether the worker has performed a line of its round
+        self.asks: Optional[Said] = None  # the line of the worker that has no answer yet
+        self.last: Optional[int] = None  # the attempt whose answer was the worker's last one
+        self.top: Optional[int] = None  # the highest attempt that a worker of this runner has said
+        self.has_said = False  # whether the worker has said something new since the last pause
+        self.pause = SHORTEST / 2
+        # The ends of attempts: those that aren't recorded yet, those of them that no worker has
+        # asked for, and what is to be reported once a worker has the answer.
+        self.seen: Dict[int, str] = {}
+        self.found: Dict[int, str] = {}
+        self.untold: Dict[int, Report] = {}
+        self.attempts: Dict[int, Attempt] = {}
+        self.current: Optional[int] = None  # the attempt that the worker waits for
+        self.is_stopping = self.is_held = self.is_unacknowledged = False
+        self.is_last_wait = False  # nothing is to be done, but for what is left and unseen
+        self.status, self.message = int(Status.LATER), ""  # of the worker at last
+        self.warned: Optional[int] = None
+        self.is_over = False
 
     def asks_for(self, serial: int, kind: str) -> bool:
         """Returns whether the worker waits for an answer of this kind about this attempt."""
-        return self.asks is not None and (self.asks.kind, self.asks.serial) == (kind, serial)
+        asks = self.asks
+        return asks is not None and asks.serial == serial and asks.kind == kind

@@ -4,28 +4,26 @@ from __future__ import annotations
 
 import os
 import sys
-from dataclasses import dataclass, field
-from typing import Collection, List, Optional
+from typing import Any, Collection, List, Optional
 
 from amo_jobs.worker import Program
 from amo_watch.texts import quoted
 
 
-@dataclass
 class Settings:
     """The settings of one call. A value here is the default of its option; the empty text stands
     for an option that isn't given. `find` makes the paths absolute."""
 
     what: str = ""  # the command: crew, work, status and so on
-    words: List[str] = field(default_factory=list)  # the words that remain after the list
-    command: List[str] = field(default_factory=list)  # the words after --
-    options: List[str] = field(default_factory=list)  # those before it, as they were given
+    words: List[str] = []  # the words that remain after the list
+    command: List[str] = []  # the words after --
+    options: List[str] = []  # those before it, as they were given
     asked: str = ""  # the list, as it was given
     jobs: str = ""  # the list, resolved
     mark: str = ""  # the list's mark
     run: str = ""  # the run's folder
     has_folder: bool = False  # --run was given
-    names: List[str] = field(default_factory=list)  # how the next command names the run
+    names: List[str] = []  # how the next command names the run
     worker_program: str = ""
     file_system: str = ""
     worker: int = 0
@@ -53,6 +51,13 @@ class Settings:
     shared: str = ""  # the folder of an amo_share whose chunks these numbers are of
     events: str = ""  # a file of events
     notify: str = ""  # a command for the shell
+
+    def __init__(self, what: str = "", **given: Any):
+        """Takes the values that aren't the defaults. (Dataclasses take long to import.)"""
+        for name in Settings.__annotations__:
+            value = getattr(Settings, name)
+            setattr(self, name, value.copy() if isinstance(value, list) else value)
+        vars(self).update(given, what=what)
 
     def find(self) -> None:
         """Makes the paths absolute, and finds those that follow from the list."""

@@ -20,8 +20,8 @@ the chunk's folder, beside the journals, and is lost with them.
 
 Statuses: 0 no chunk is free, and all that is here is done; 1 some lines failed; 2 some lines are in
 doubt or running; 65 refused; 69 stopped in order; 75 another amo_share works in DIR, or, of
-`status`, chunks are free or have open lines. All others are as of amo_jobs. docs/MACHINES.md
-explains the rest.
+`status`, chunks are free or have open lines. All others are as of amo_jobs.
+docs/guide/machines.md explains the rest.
 """
 
 from __future__ import annotations
@@ -33,11 +33,10 @@ import os
 import pathlib
 import re
 import shlex
-import signal
-import sys
 from typing import Any, Dict, List, Tuple
 
 from amo_jobs import cli
+from amo_jobs.calls import keep_signals
 from amo_jobs.chunk import Chunk, Sharing, pause, tell
 from amo_jobs.files import content, place
 from amo_jobs.locks import locked
@@ -59,35 +58,28 @@ def words_of(text: str) -> List[str]:
 
 # The options of a machine that shares, and from `--run` on those of `status` too. Sharing has the
 # defaults.
-OPTIONS: List[Tuple[str, Dict[str, Any]]] = [
-    ("--name",
-     dict(required=True,
-          help="the list's name in the store, up to 64 of A-Z a-z 0-9 . _ - (required)")),
-    ("--claim", dict(required=True, type=words_of, metavar="CMD",
-                     help="the claim program, with its arguments (required)")),
-    ("--chunk", dict(required=True, type=cli.within(int, 1, 10**9), metavar="N",
-                     help="the number of lines of a chunk (required)")),
-    ("--workers", dict(required=True, type=cli.within(int, 1, 16), metavar="M",
-                       help="the number of workers on this machine, 1 to 16 (required)")),
-    ("--crew", dict(type=words_of, metavar="WORDS",
-                    help="more options for amo_jobs, such as --crew='--timeout 60' (default:"
-                         " none)")),
-    ("--metrics",
-     dict(type=os.path.abspath, metavar="FILE",
-          help="keep FILE up to date with numbers for Prometheus, of all chunks that are here"
-               " (default: none)")),
-    ("--moved",
-     dict(action="store_true",
-          help="the folder or the claim program was moved, and no other copy of it exists"
-               " (default: refused)")),
-    ("--machine-id",
-     dict(metavar="FILE",
-          help="the file with this machine's id (default: /etc/machine-id)")),
-    ("jobs", dict(type=os.path.abspath, metavar="JOBS", help="the list, a job a line")),
-    ("--run", dict(required=True, type=os.path.abspath, metavar="DIR",
-                   help="the folder of this machine (required)")),
-    *((name, how) for _, name, how in cli.OPTIONS if name in ("--worker-program", "--file-system")),
-]
+OPTIONS: List[Tuple[str, Dict[str, Any]]] = [it[1:] for it in (
+    cli.option((), "--name NAME", "the list's name in the store, up to 64 of A-Z a-z 0-9 . _ -"
+               " (required)", required=True),
+    cli.option((), "--claim CMD", "the claim program, with its arguments (required)", words_of,
+               required=True),
+    cli.option((), "--chunk N", "the number of lines of a chunk (required)",
+               cli.within(int, 1, 10**9), required=True),
+    cli.option((), "--workers M", "the number of workers on this machine, 1 to 16 (required)",
+               cli.within(int, 1, 16), required=True),
+    cli.option((), "--crew WORDS", "more options for amo_jobs, such as --crew='--timeout 60'"
+               " (default: none)", words_of),
+    cli.option((), "--metrics FILE", "keep FILE up to date with numbers for Prometheus, of all"
+               " chunks that are here (default: none)", os.path.abspath),
+    cli.option((), "--moved", "the folder or the claim program was moved, and no other copy of it"
+               " exists (default: refused)"),
+    cli.option((), "--machine-id FILE",
+               "the file with this machine's id (default: /etc/machine-id)"),
+    ((), "jobs", dict(type=os.path.abspath, metavar="JOBS", help="the list, a job a line")),
+    cli.option((), "--run DIR", "the folder of this machine (required)", os.path.abspath,
+               required=True),
+    *(it for it in cli.OPTIONS if it[1] in ("--worker-program", "--file-system")),
+)]
 
 
 # ---- the commands
@@ -125,7 +117,7 @@ def share(sharing: Sharing, program: Program) -> int:
     found = chunks(sharing, program, note)
     for it in (it for it in found if os.path.isdir(it.folder)):
         it.check()
-    take_signals(sharing)
+    keep_signals(sharing.signals.append)
     for it in found:
         pause(sharing, 0)
         if it.take():
@@ -187,13 +179,6 @@ def chunks(sharing: Sharing, program: Program, note: Dict[str, Any]) -> List[Chu
         note["name"], note["chunk"], note["lines"], note["claim"], note["digest"])
     count = -(-sharing.lines // sharing.chunk)
     return [Chunk(sharing, program, number) for number in range(1, count + 1)]
-
-
-def take_signals(sharing: Sharing) -> None:
-    """Keeps the signals that come. A signal that was ignored at the start stays ignored."""
-    for number in (signal.SIGINT, signal.SIGTERM, signal.SIGHUP):
-        if number == signal.SIGTERM or signal.getsignal(number) != signal.SIG_IGN:
-            signal.signal(number, lambda number, _: sharing.signals.append(number))
 
 
 # ---- the words of the command line

@@ -11,13 +11,14 @@ from typing import Any, List, Sequence
 
 from amo_jobs.calls import IGNORED_BY_PYTHON
 from amo_jobs.library import library
-from amo_jobs.locks import NOT_GOT
+from amo_jobs.locks import close_all, NOT_GOT
 from amo_jobs.settings import Settings
 
 HOLE = b"{}"  # the word that stands for the text
 VARIABLES = (b"AMO_JOB", b"AMO_LINE")  # each command has its own
 LONGEST_START = 4000  # bytes; `calls.c` adds a number, and has room for PATH_MAX
 LOCK, NO_FILE = 0, 3  # places of files in `struct start`: the lock's, the outputs', and none
+SPARE = 0  # the number of a lock's file between two commands; no attempt has it
 OUTPUTS = {"out": 1, "err": 2}
 
 Texts = ctypes.POINTER(ctypes.c_char_p)
@@ -31,7 +32,8 @@ class Start(ctypes.Structure):
                 ("defaults", Numbers), ("timer", ctypes.c_long * 4),
                 ("starts", ctypes.c_char_p * 3), ("serial", ctypes.c_long),
                 ("former", ctypes.c_long * 3), ("files", ctypes.c_int * 3),
-                ("failed", ctypes.c_int), ("error", ctypes.c_int), ("mask", ctypes.c_long * 16)]
+                ("failed", ctypes.c_int), ("error", ctypes.c_int), ("status", ctypes.c_int),
+                ("mask", ctypes.c_long * 16)]
 
 
 def texts(found: Sequence[bytes]) -> Any:
@@ -66,7 +68,7 @@ class Starter:
                            (0, 0, int(timer), int(timer % 1 * 1e6)),
                            tuple(os.fsencode(it) for it in self.starts), files=(-1, -1, -1))
         self.files, self.pointer = self.given.files, ctypes.byref(self.given)
-        self.call, self.call_keep = library().amo_start, library().amo_keep
+        self.call, self.call_over = library().amo_start, library().amo_over
 
     def start(self, text: bytes, line: int, serial: int) -> int:
         """Starts the command of a line, and returns its process; 0 if its child could not become
@@ -101,20 +103,31 @@ class Starter:
         return OSError(self.given.error, os.strerror(self.given.error))
 
     def take_lock(self) -> List[int]:
-        """Returns the lock of the command that was started last, if it was got. The caller closes
-        it."""
+        """Returns the lock of the command that was started last. The caller closes it."""
         file, self.files[LOCK] = self.files[LOCK], -1
-        return [file] if file >= 0 else []
+        return [file]
+
+    def free(self, serial: int) -> bool:
+        """Returns whether nobody has the lock of an attempt, and frees the name of its file then.
+        The file is kept for the next command."""
+        self.given.serial = serial
+        return bool(library().amo_free(self.pointer))
+
+    def is_over(self, serial: int, children: int, known: Sequence[int]) -> bool:
+        """Returns whether surely nothing is left of the attempt that has the outputs. Frees the
+        names of its files then. `children` is the list of this process's children."""
+        self.given.serial = serial
+        return bool(self.call_over(self.pointer, children, known[0] if known else 0))
 
     def keep(self, is_over: bool) -> None:
-        """Keeps the outputs that are empty for the next command, if their command is over. The
-        others stay as they are."""
-        self.call_keep(self.pointer, is_over)
+        """Keeps empty outputs for the next command, if theirs is over. The others stay."""
+        library().amo_keep(self.pointer, is_over)
 
     def remove(self) -> None:
-        """Removes the empty outputs that no command has any more."""
-        for place in OUTPUTS.values():
-            if self.files[place] >= 0:
-                with suppress(OSError):
-                    os.unlink(self.path(place, self.given.former[place]))
+        """Removes the files that no command has any more, and what a killed runner has left."""
+        former = [(it, self.given.former[it]) for it, file in enumerate(self.files) if file >= 0]
+        for place, serial in [(LOCK, SPARE), *former]:
+            with suppress(OSError):
+                os.unlink(self.path(place, serial))
+        close_all(self.take_lock())
         self.keep(False)

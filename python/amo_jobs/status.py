@@ -20,7 +20,7 @@ from amo_jobs.run_folder import name_run
 from amo_jobs.settings import Settings, next_command
 from amo_jobs.statuses import KINDS, Status
 from amo_jobs.worker import Program
-from amo_watch.texts import dated, Output, outputs_of
+from amo_watch.texts import dated, lasting, Output, outputs_of
 
 # Each answer that the operator may give, with the text above its command.
 ANSWERS = {"done": "If it happened:", "not-done": "If it surely did not happen:"}
@@ -129,7 +129,7 @@ def pace_of(run: str, workers: List[int]) -> float:
     pace = 0.0
     for number in workers:
         with suppress(OSError, ValueError), open(f"{run}/pace.{number}") as file:
-            begun, ended = map(float, file.read().split())
+            begun, ended = map(float, file.readline().split())
             pace += ended / max(time.time() - begun, 1)
     return pace
 
@@ -147,18 +147,6 @@ def listed(run: str, found: Dict[str, Any], states: Collection[str]) -> Iterator
 
 
 # ---- doubts
-
-def lasting(seconds: int) -> str:
-    """Returns a number of seconds by its two largest units, rounded down."""
-    sizes = ((86400, "d"), (3600, "h"), (60, "min"), (1, "s"))
-    parts, left = [], seconds
-    for size, unit in sizes:
-        parts.append((left // size, unit))
-        left %= size
-    while len(parts) > 1 and not parts[0][0]:
-        parts.pop(0)
-    return " ".join(f"{count} {unit}" for count, unit in parts[:2] if count or len(parts) == 1)
-
 
 def how_old(doubt: Dict[str, Any]) -> str:
     """Returns when an attempt ended, and how long ago."""

@@ -27,5 +27,6 @@ class Status(enum.IntEnum):
     BUILD = 125  # amo_worker could not be built, or a program has failed internally
 
 
+IN_ORDER = (Status.DONE, Status.LEFT, Status.LATER)  # by which a worker ends in order
 # The kinds of lines, in the order in which they are counted.
 KINDS = ("done", "failed", "doubt", "running", "untouched", "open")

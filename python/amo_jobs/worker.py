@@ -2,9 +2,7 @@
 
 from __future__ import annotations
 
-import json
 import os
-import subprocess
 from typing import Any, Dict
 
 from amo_jobs.messages import End, Screen, visible
@@ -54,6 +52,7 @@ class Program:
         if not os.path.exists(program):
             Screen.tell("amo_worker: it isn't built yet, so it is proved and built now, once; wait"
                         " 7 to 15 minutes on 4 processors")
+        import subprocess
         if subprocess.run([front, "--help"], stdin=subprocess.DEVNULL,
                           stdout=subprocess.DEVNULL).returncode:
             raise End(Status.BUILD, "amo_worker: it could not be built; correct what the lines"
@@ -62,6 +61,7 @@ class Program:
 
     def call(self, *words: str) -> bytes:
         """Returns what the program writes. If it fails, raises its status; it has reported why."""
+        import subprocess  # no runner needs it
         ended = subprocess.run([self.path, *words, *self.more], stdin=subprocess.DEVNULL,
                                stdout=subprocess.PIPE, start_new_session=True)
         if ended.returncode:
@@ -70,12 +70,14 @@ class Program:
 
     def shown(self, *words: str) -> int:
         """Returns the status with which the program ends; what it writes is shown as it comes."""
+        import subprocess
         ended = subprocess.run([self.path, *words, *self.more], stdin=subprocess.DEVNULL,
                                start_new_session=True)
         return ended.returncode if ended.returncode >= 0 else Status.MEMORY
 
     def told(self, *words: str) -> Any:
         """Returns what the program prints as JSON."""
+        import json  # no runner needs it
         try:
             return json.loads(self.call(*words, "--json"))
         except ValueError:

@@ -4,15 +4,14 @@ from __future__ import annotations
 
 import os
 import re
-from contextlib import suppress
 from typing import Callable, List, Optional
 
-from amo_jobs.call_log import line_text, note
+from amo_jobs.call_log import line_text, LOG, note
 from amo_jobs.pipes import Child
 from amo_jobs.runner_state import Said, STAY
 
 MOST_KEPT = 1 << 16  # bytes of its messages
-TAKEN = re.compile(rb"(?:amo_worker: )?(line \d+: attempt \d+\.\d+ stands against it; not started)")
+TAKEN = rb"(?:amo_worker: )?(line \d+: attempt \d+\.\d+ stands against it; not started)"
 
 
 def said_by(line: bytes, is_alive: bool) -> Said:
@@ -39,23 +38,26 @@ class WorkerProcess(Child):
         """Takes the whole lines and the messages that there are, and then the end of the worker. A
         line without its end counts for nothing."""
         lines = self.output.lines()
-        self.lines += lines
-        for line in lines:
-            note("receives", self.process, line_text(line))
-        if not lines:
+        if lines:
+            self.lines += lines
+        else:
             self.read_errors()
             self.files = self.output.files + self.errors.files
+        for line in lines if LOG is not None else ():
+            note("receives", self.process, line_text(line))
         if self.status is None:
-            with suppress(ChildProcessError):
+            try:
                 number, status = os.waitpid(self.process, os.WNOHANG)
-                self.status = os.waitstatus_to_exitcode(status) if number else None
-                if number:
-                    note("gone", number)
+            except ChildProcessError:
+                return
+            if number:
+                self.status = os.waitstatus_to_exitcode(status)
+                note("gone", number)
 
     def read_errors(self) -> None:
         """Takes the messages that there are. A full pipe would block the worker."""
         for line in self.errors.lines():
-            found = TAKEN.fullmatch(line)
+            found = re.fullmatch(TAKEN, line)
             if found:
                 self.was_taken(found[1].decode())
             else:  # the last ones are enough

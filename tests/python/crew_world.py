@@ -9,11 +9,12 @@ from amo_jobs.crew_rules import (
     Locked, Number, Occupied, Orphans, PauseOver, Reported, RunnerEnded, Signalled, State
 )
 from amo_jobs.reports import Report
+from amo_jobs.runner_state import RUNNER_AGAIN
 from amo_jobs.settings import Settings
 
 HALT, KILLED = 2, -9
 GOOD, FAILED = Report(reports.ENDED, 1, 1, "done", 0), Report(reports.ENDED, 1, 1, "done", 3)
-UNBEGUN = Report(reports.UNBEGUN, 1, 1, text="why")
+UNBEGUN, ROUND = Report(reports.UNBEGUN, 1, 1, text="why"), Report(reports.ROUND)
 
 
 class World(AnyWorld):
@@ -61,6 +62,7 @@ class World(AnyWorld):
         if not self.living[worker]:
             found += [Reported(worker, it) for it in (GOOD, FAILED, UNBEGUN)
                       if worker not in self.idle]
+            found.append(Reported(worker, ROUND))
             codes = [69] if worker in self.told_to_stop else [0, 65]
             found += [Reported(worker, Report(reports.OVER, code=it)) for it in codes]
         return found
@@ -107,6 +109,8 @@ class World(AnyWorld):
             self.is_stopped = True
 
     def runner_reports(self, worker, report):
+        if report == ROUND:
+            return
         self.living[worker] = report.is_failure() and worker not in self.told_to_stop
         if report.kind == reports.OVER:
             self.over[worker] = report.code
@@ -129,6 +133,7 @@ class World(AnyWorld):
         want(not self.is_stopped, "a runner is started after a stop")
         want(worker not in self.dead or not self.orphans, "a runner is started beside orphans")
         want(worker not in self.dead or isinstance(event, PauseOver), "a runner without a pause")
+        want((action.what == RUNNER_AGAIN) == (worker in self.dead), "a start of another kind")
         self.dead.discard(worker)
         self.living[worker] = False
 
@@ -143,6 +148,9 @@ class World(AnyWorld):
             self.told_to_stop.add(action.worker)
             self.idle |= {action.worker} if self.living[action.worker] else set()
             self.living[action.worker] = False
+        if word == reports.NEWS:
+            is_own = isinstance(event, Reported) and event.worker == action.worker
+            want(not is_own, "a runner gets news of itself")
         if word == reports.PASS:
             want(self.signals > 1 and isinstance(event, Signalled), "the first signal is passed on")
             want(int(number) == event.number, "another signal is passed on")

@@ -30,7 +30,7 @@ class World(AnyWorld):
         self.state = State(SETTINGS)
         # the worker: its journal has `serial` intents, of which these have no outcome yet
         self.pending, self.serial, self.lines = set(pending), max(pending, default=0), lines
-        self.is_alive = False
+        self.is_alive = self.has_failed = False  # whether the last worker was killed, or has failed
         self.to_ask, self.asks, self.answered = [], None, None
         self.is_working = self.has_running = self.must_leave = False
         self.recorded = {}
@@ -159,7 +159,8 @@ class World(AnyWorld):
     def worker_ends(self, it):
         """A worker that ends in order has recorded the last answer; one that was killed may not
         have."""
-        if it.status in (0, 69, 75):
+        self.has_failed = it.status not in (0, 69, 75)
+        if not self.has_failed:
             self.record()
         if self.asks and self.asks[0] == "perform" and self.asks[1] not in self.begun:
             self.unbegun.add(self.asks[1])
@@ -171,7 +172,9 @@ class World(AnyWorld):
             self.pending.discard(self.answered[0])
         self.answered = None
 
-    def on_StartWorker(self, _, event):
+    def on_StartWorker(self, action, event):
+        want(action.has_failed == self.has_failed, "a start of another kind")
+        self.has_failed = False
         want(not self.is_alive and not self.is_ended, "a worker is started while one is there")
         want(self.command is None, "a worker is started while a command of the former one runs")
         want(not isinstance(event, WorkerEnded), "a worker is started again without a pause")
@@ -188,6 +191,9 @@ class World(AnyWorld):
         if kind == "over":
             want(not words, f"an answer to over: {action}")
             want(not (self.is_stopped and way == "go"), "a round is begun after a stop")
+            is_first = self.is_working or not isinstance(event, Said)
+            want(way == "leave" or is_first, "a worker that performs nothing goes on at once")
+            self.is_working = False
             return
         want(int(words[1]) == serial, f"an answer to another question: {action}")
         self.check_answer(kind, serial, words, way)

@@ -9,7 +9,8 @@ import package  # noqa: F401
 
 import browser
 from amo_jobs.settings import Settings
-from amo_watch import facts, page, palette
+from amo_watch import facts, page
+from contrast import contrast, LEAST
 from test_report import NOW, ODD, Page, Program
 
 WIDTHS, COUNT = (1280, 400), 6000
@@ -44,6 +45,11 @@ BROKEN = """[...document.querySelectorAll('th,td:not([data-name=Text])')].flatMa
   }
   return found;
 })"""
+# Of the marks in the first lane: the letter, the form of the line, the letter's place, the window.
+MARKED = """[...document.querySelector('.bars').querySelectorAll('b')].map(it => {
+  const style = getComputedStyle(it), place = it.firstChild.getBoundingClientRect();
+  return [it.innerText, style.borderLeftStyle, place.left, place.right, innerWidth];
+})"""
 FOCUSED = """(() => {
   const it = document.activeElement, style = getComputedStyle(it);
   return [[...document.querySelectorAll('*')].indexOf(it), it.tagName, style.outlineStyle,
@@ -61,7 +67,7 @@ def hex_of(colour):
 def low(pairs):
     """Returns the elements whose text has too little contrast."""
     return [name for pair, name in pairs.items()
-            if palette.contrast(*map(hex_of, pair.split("|"))) < palette.LEAST]
+            if contrast(*map(hex_of, pair.split("|"))) < LEAST]
 
 
 @unittest.skipUnless(browser.PROGRAM, "chromium isn't installed: apt-get install chromium")
@@ -94,6 +100,9 @@ class Browsers(unittest.TestCase):
         os.mkdir(run)
         with open(f"{run}/jobs", "w", encoding="utf-8") as file:
             file.write("".join(f"{it}\n" for it in lines))
+        with open(f"{run}/pace.1", "w", encoding="ascii") as file:  # marks at the very end
+            file.write(" " * 32 + "".join(f"\n{kind} {NOW + 1} {NOW + 1} {'0' * 36}"
+                                          for kind in ("crew", "runner", "worker")))
         settings = Settings(jobs=f"{run}/list", run=run)
         found = facts.facts_of(settings, Program(rows, len(lines)), "1.2.3")
         text = "".join(page.page_of(found)).replace("</body>", f"{more}</body>")
@@ -113,6 +122,14 @@ class Browsers(unittest.TestCase):
             for way in self.each_way(path):
                 self.assertEqual(self.browser.value(WIDER), 0, way)
                 self.assertEqual(self.browser.value(BROKEN), [], way)
+
+    def test_each_mark_is_a_letter_and_a_line_within_its_window(self):
+        for way in self.each_way(self.few):
+            found = self.browser.value(MARKED)
+            self.assertEqual([it[0] for it in found], list("MCRW"), way)
+            self.assertEqual(len({it[1] for it in found}), 4, (way, found))
+            self.assertTrue(all(0 < left < right <= width for *_, left, right, width in found),
+                            (way, found))
 
     def test_a_page_that_is_wider_is_found(self):
         wide = '<p style="width:2000px">x</p>'

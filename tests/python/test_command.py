@@ -16,7 +16,7 @@ import package  # noqa: F401
 
 from amo_jobs import calls, starter
 from amo_jobs.command import Command, NotStarted
-from amo_jobs.locks import remove_if_free
+from amo_jobs.locks import close_all, locked
 from amo_jobs.processes import Family
 from amo_jobs.runner_state import Rest
 from amo_jobs.settings import Settings
@@ -62,6 +62,12 @@ class Case(unittest.TestCase):
                             timeout=self.timeout, **more)
         return Starter(settings, 3)
 
+    def is_free(self, found):
+        """Returns whether a handle that is opened anew gets the lock of a command."""
+        lock = locked(found.path, False)
+        close_all([lock] if lock else [])
+        return lock is not None
+
     def start(self, commands, text=b"pay"):
         self.serial += 1
         found = Command(commands, self.family, self.serial, 7)
@@ -73,14 +79,20 @@ class Case(unittest.TestCase):
         def is_reaped():
             self.ended.update(calls.reap()[0])
             return found.process in self.ended
-        until(is_reaped)
-        number = found.process
+        if found.status is None:
+            until(is_reaped)
+            found.status = self.ended[found.process]
         found.ended()
-        return self.ended[number]
+        return found.status
 
     def text(self, name):
         with open(f"{self.run}/{name}") as file:
             return file.read()
+
+    def written(self, name):
+        """Makes a file, and returns its path."""
+        with open(f"{self.run}/{name}", "w", encoding="ascii"):
+            return f"{self.run}/{name}"
 
     def files(self):
         return sorted(it for it in os.listdir(self.run) if it[-4:] != ".txt")
@@ -127,11 +139,11 @@ class Spawned(Case):
     def test_the_lock_is_held_by_the_command(self):
         found = self.start(self.commands("sh", "-c", SLEEPS))
         os.close(found.locks.pop())
-        self.assertFalse(remove_if_free(found.path))
+        self.assertFalse(found.starter.free(1))
         os.kill(found.process, signal.SIGKILL)
         self.end(found)
-        self.assertTrue(remove_if_free(found.path))
-        self.assertTrue(remove_if_free(found.path))  # a missing file counts as free
+        self.assertTrue(found.starter.free(1))
+        self.assertTrue(found.starter.free(1))  # a missing file counts as free
 
     def test_what_holds_the_lock_is_seen(self):
         script = "sleep 60 & echo $! > left.txt"
@@ -154,7 +166,7 @@ class Spawned(Case):
         found, number = self.leave_unseen()
         for _ in range(2):
             self.assertIs(found.rest(()), Rest.UNSEEN)
-            self.assertFalse(remove_if_free(found.path))
+            self.assertFalse(self.is_free(found))
         os.kill(number, signal.SIGKILL)
         until(lambda: found.rest(calls.reap() and ()) is Rest.NOTHING)
         self.assertEqual(self.files(), [])
@@ -163,7 +175,7 @@ class Spawned(Case):
         found, _ = self.leave_unseen()
         os.unlink(found.path)
         self.assertIs(found.rest(()), Rest.UNSEEN)
-        self.assertFalse(remove_if_free(found.path))
+        self.assertFalse(self.is_free(found))
 
     def test_one_that_holds_the_lock_hides_nobody(self):
         script = ("import subprocess\n"
@@ -205,8 +217,9 @@ class Spawned(Case):
     def test_who_cannot_be_looked_at_is_left(self):
         found = self.start(self.commands("true"))
         self.end(found)
-        with mock.patch.object(self.family, "others", side_effect=OSError(5, "EIO")):
-            self.assertIs(found.rest(()), Rest.UNSEEN)
+        file, self.family.file = self.family.file, -1
+        self.assertIs(found.rest(()), Rest.UNSEEN)
+        self.family.file = file
         self.assertIs(found.rest(()), Rest.NOTHING)
 
     def test_a_lock_that_cannot_be_tried_is_not_free(self):
@@ -250,6 +263,52 @@ class Spawned(Case):
         paths = [f"{self.run}/out.3.{it}" for it in (1, 2)]
         self.assertFalse(os.path.samefile(*paths))
 
+    def test_the_file_of_a_lock_serves_the_next_command(self):
+        commands, numbers = self.commands("sh", "-c", SLEEPS), []
+        for _ in range(3):
+            found = self.start(commands)
+            numbers.append(os.stat(found.path).st_ino)
+            os.close(found.locks.pop())
+            self.assertFalse(self.is_free(found))  # the command alone has it
+            os.kill(found.process, signal.SIGKILL)
+            self.end(found)
+            self.assertIs(found.rest(()), Rest.NOTHING)
+            self.assertTrue(found.path not in self.files())
+            self.assertEqual([it for it in self.files() if "command" in it], ["command.3.0"])
+        self.assertEqual(len(set(numbers)), 1)
+        commands.remove()
+        self.assertEqual(self.files(), [])
+
+    def test_a_lock_that_somebody_has_stays_with_its_attempt(self):
+        commands = self.commands("sh", "-c", "if [ $AMO_JOB = leaves ]; then sleep 60 & fi")
+        first = self.start(commands, b"leaves")
+        self.end(first)
+        self.assertIs(first.rest(()), Rest.SEEN)
+        second = self.start(commands)
+        self.assertNotEqual(os.stat(first.path).st_ino, os.stat(second.path).st_ino)
+        self.end(second)
+        self.assertIs(second.rest(()), Rest.NOTHING)
+        self.assertFalse(self.is_free(first))
+
+    def test_a_spare_file_that_was_moved_or_exchanged_serves_nobody(self):
+        commands = self.commands("sh", "-c", SLEEPS)
+        for change in (lambda path: None, lambda path: os.rename(path, f"{self.run}/moved.txt"),
+                       lambda path: os.replace(self.written("other.txt"), path)):
+            found = self.start(commands)
+            os.close(found.locks.pop())
+            self.assertFalse(self.is_free(found))
+            os.kill(found.process, signal.SIGKILL)
+            self.end(found)
+            self.assertIs(found.rest(()), Rest.NOTHING)
+            change(f"{self.run}/command.3.0")
+        self.assertFalse(self.is_free(self.start(commands)))
+
+    def test_what_a_killed_runner_left_is_removed(self):
+        self.written("command.3.0")
+        commands = self.commands("true")
+        commands.remove()
+        self.assertEqual(self.files(), [])
+
     def test_an_output_that_was_moved_is_made_anew(self):
         commands = self.commands("true")
         found = self.start(commands)
@@ -258,6 +317,37 @@ class Spawned(Case):
         os.rename(f"{self.run}/out.3.1", f"{self.run}/moved.txt")
         self.end(self.start(commands))
         self.assertIn("out.3.2", self.files())
+
+
+    def test_a_short_command_has_ended_with_its_start(self):
+        commands, found = self.commands("sh", "-c", "exit 3"), []
+
+        def is_short():
+            found.append(self.start(commands))
+            status = found[-1].status
+            self.assertEqual((self.end(found[-1]), found[-1].rest(())), (3, Rest.NOTHING))
+            return status is not None
+
+        until(is_short)
+        self.assertEqual(calls.reap(), ({}, False))
+        self.assertIsNone(self.start(self.commands("sh", "-c", SLEEPS)).status)
+
+    def test_the_end_of_another_child_is_not_lost(self):
+        rings, blocked = [], [signal.SIGCHLD]
+        signal.signal(signal.SIGCHLD, lambda *_: rings.append(1))
+        for words in (["true"], ["sh", "-c", SLEEPS]):
+            signal.pthread_sigmask(signal.SIG_BLOCK, blocked)
+            other = calls.spawn([b"true"], {})
+            os.waitid(os.P_PID, other, os.WEXITED | os.WNOWAIT)
+            found = self.start(self.commands(*words))
+            rings.clear()
+            signal.pthread_sigmask(signal.SIG_UNBLOCK, blocked)
+            self.assertTrue(rings)
+            self.ended.update(calls.reap()[0])
+            self.assertEqual(self.ended[other], 0)
+            if found.status is None and found.process not in self.ended:
+                os.kill(found.process, signal.SIGKILL)
+            self.end(found)
 
 
 class NotBegun(Case):

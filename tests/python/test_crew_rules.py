@@ -3,6 +3,7 @@ that the monitor has to notice."""
 
 import signal
 import unittest
+from unittest import mock
 
 from crew_world import FAILED, KILLED, World
 from worlds import after, Changes, EveryOrder
@@ -12,6 +13,7 @@ from amo_jobs.crew_rules import (
     RunnerEnded, Say, Signalled, SignalOrphans, Start, State
 )
 from amo_jobs.reports import Report
+from amo_jobs.runner_state import BY_CREW, RUNNER_AGAIN
 from amo_jobs.settings import Settings
 
 CHANGES = Changes(crew_rules)
@@ -64,6 +66,11 @@ def forgets_the_refusal(state):
     return None
 
 
+def forgets_the_kill(state, it):
+    return [Start(it.worker, BY_CREW) if isinstance(action, Start) else action
+            for action in ORIGINAL[PauseOver](state, it)]
+
+
 # The mistakes: how each is made, and the rule that it breaks.
 MISTAKES = {
     "no acknowledgement": (CHANGES.function("after_failure", lambda *_: []),
@@ -83,8 +90,14 @@ MISTAKES = {
         CHANGES.handler(RunnerEnded, lets_go_at_once),
         "a lock is let go while nobody else sees what is left"),
     "a runner is started after a stop": (
-        CHANGES.handler(Locked, lambda state, it: [Start(it.worker)]),
+        CHANGES.handler(Locked, lambda state, it: [Start(it.worker, BY_CREW)]),
         "it ends while a runner lives"),
+    "a restart counts as a first start": (CHANGES.handler(PauseOver, forgets_the_kill),
+                                          "a start of another kind"),
+    "news for all": (
+        lambda: mock.patch.dict(crew_rules.REPORTS, {
+            reports.ROUND: lambda state, *_: crew_rules.orders(state, reports.NEWS)}),
+        "a runner gets news of itself"),
     "a refusal is forgotten": (CHANGES.function("last_status", forgets_the_refusal),
                                "a refusal isn't its status"),
 }
@@ -105,7 +118,7 @@ class Steps(unittest.TestCase):
         self.state = State(Settings(command=["pay"], results="/results", halt=halt),
                            "amo_jobs status x", {it + 1: Number() for it in range(numbers)})
         for worker in range(1, numbers + 1):
-            self.assertEqual(self.take(Locked(worker)), [Start(worker)])
+            self.assertEqual(self.take(Locked(worker)), [Start(worker, BY_CREW)])
 
     def take(self, event):
         return crew_rules.take(self.state, event)
@@ -187,6 +200,11 @@ class Steps(unittest.TestCase):
         said = self.report(reports.ASKED, code=signal.SIGTERM)[0].text
         self.assertEqual(said, "worker 1: its runner got SIGTERM, so no further job is started")
 
+    def test_the_others_hear_of_a_round(self):
+        self.assertEqual(self.report(reports.ROUND), [Order(2, "news")])
+        self.state.numbers[2].phase = Phase.PAUSES
+        self.assertEqual(self.report(reports.ROUND), [])
+
     def test_lines_that_were_taken(self):
         shown = [self.report(reports.TAKEN, text=f"line {k}") for k in range(12)]
         self.assertEqual(sum(map(bool, shown)), crew_rules.MOST_TAKEN)
@@ -220,7 +238,7 @@ class Steps(unittest.TestCase):
         self.assertEqual(self.take(Orphans(True, "")), [])
         for seconds in (0.1, 0.2, 0.4):
             self.assertEqual(self.take(Orphans(False, "")), [Pause(1, seconds)])
-            self.assertEqual(self.take(PauseOver(1)), [Start(1)])
+            self.assertEqual(self.take(PauseOver(1)), [Start(1, RUNNER_AGAIN)])
             self.take(RunnerEnded(1, -9))
         self.take(Orphans(False, ""))
         self.assertEqual(self.take(Signalled(signal.SIGINT))[1:], [Order(2, "stop"), LetGo(1)])

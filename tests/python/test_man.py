@@ -266,6 +266,10 @@ class Making(unittest.TestCase):
         with self.assertRaisesRegex(pages.Wrong, "no directive"):
             page(*ALL, "{optoins every}")
 
+    def test_the_mark_of_an_example_is_shown(self) -> None:
+        for mark in ("{run}", "{run 2 0}", "{not run: it needs\nroot}", "{text}"):
+            self.assertEqual(page(*ALL, "    mow"), page(*ALL, mark, "    mow"))
+
     def test_a_list_whose_item_has_no_text_is_refused(self) -> None:
         with self.assertRaisesRegex(pages.Wrong, "list of items"):
             page(*ALL, "- one: A text.\n- two")

@@ -1,9 +1,11 @@
-"""The parts of tools/pages: numbers that are measured, paragraphs that stand twice, pictures."""
+"""The parts of tools/pages: blocks, old names, numbers that are measured, paragraphs that stand
+twice, pictures."""
 
 import ast
 import glob
 import os
 import re
+import subprocess
 import sys
 import tempfile
 import unittest
@@ -13,10 +15,78 @@ from package import ROOT
 
 sys.path.insert(0, f"{ROOT}/tools/modules")
 
+import blocks
 import drawing
+import moved
 import pictures
 import repeats
 import sizes
+
+
+PAGE, MANUAL = "docs/protocol.md", "man/source/amo.1.txt"
+
+
+class Blocks(unittest.TestCase):
+    """The marks of blocks, and the commands in them."""
+
+    def test_a_good_mark_is_refused(self):
+        for mark in ("rust", "rust crates/a/src/lib.rt", "console run", "sh stores/etcd",
+                     "sh not run: needs root", "console not run: an hour"):
+            found = list(blocks.unmarked(PAGE, f"```{mark}\n$ ls\n```\n"))
+            self.assertEqual(found, [], mark)
+        self.assertEqual(list(blocks.unmarked(PAGE, "```text\na $ b\n```\n")), [])
+        installed = "```console installed\n$ ls\n```\n"
+        self.assertEqual(list(blocks.unmarked(blocks.INSTALLED, installed)), [])
+
+    def test_a_wrong_mark_is_taken(self):
+        for mark in ("", "console", "sh", "bash", "console installed", "console not run: ",
+                     "sh not run:", "text"):
+            found = list(blocks.unmarked(PAGE, f"```{mark}\n$ ls\n```\n"))
+            self.assertEqual(len(found), 1, mark)
+
+    def test_an_indented_block_is_taken(self):
+        self.assertEqual(len(list(blocks.unmarked(PAGE, "It:\n\n    ls\n    ls\n\nEnd\n"))), 1)
+        self.assertEqual(list(blocks.unmarked(PAGE, "10. It is\n    long.\n\n    \nEnd\n")), [])
+
+    def test_an_example_of_a_manual_page_needs_no_mark(self):
+        for above, count in (("{run}", 0), ("{run 0 2}", 0), ("{not run: needs\nroot}", 0),
+                             ("{text}", 0), ("It:", 1), ("{run 0}", 1), ("{run 0 0 0}", 1),
+                             ("{not run}", 1), ("{run 0 }", 1), ("{options}", 1)):
+            found = list(blocks.unmarked(MANUAL, f"# It\n\n{above}\n\n    amo\n    amo run\n"))
+            self.assertEqual(len(found), count, above)
+
+    def test_commands_are_cut_elsewhere(self):
+        page = "1. It\n\n   ```console run\n   $ one \\\n     two\n   a\n     b\n   $ three\n   ```\n"
+        self.assertEqual(list(blocks.steps(PAGE, page)),
+                         [blocks.Step("one \\\n  two", ["a", "  b"]), blocks.Step("three", [])])
+        self.assertEqual(blocks.without(page), "1. It\n\n\n")
+
+    def test_a_command_of_a_manual_page_has_another_status(self):
+        found = list(blocks.steps(MANUAL, "{run 2 0}\n\n    one \\\n      two\n    three\n\n"
+                                          "{run}\n\n    four\n\n{text}\n\n    five\n"))
+        self.assertEqual([(it.command.split("\n", 1)[1], it.status) for it in found],
+                         [("one \\\n  two", 2), ("three", 0), ("four", 0)])
+
+    def test_a_command_that_does_not_end_is_awaited(self):
+        call = "import followed; followed.LONGEST = 0.1; print(followed.ended('sleep 100', '.'))"
+        ran = subprocess.run([sys.executable, "-B", "-c", call], stdout=subprocess.PIPE, timeout=50,
+                             cwd=f"{ROOT}/tools/modules", encoding="utf-8", check=True)
+        self.assertIn("it runs for longer than 0.1 seconds", ran.stdout)
+
+
+class Moved(unittest.TestCase):
+    """Names of pages that have moved."""
+
+    def test_an_old_name_is_passed_over(self):
+        old = moved.STUBS[0]
+        texts = [("tools/a", f"one\nread {old}, `it`\n"), ("CHANGELOG.md", old), (old, old),
+                 ("docs/decisions/001-a.md", old), ("tools/b", f"x{os.path.basename(old)}\n")]
+        self.assertEqual(list(moved.named(texts)), [f"tools/a:2: {os.path.basename(old)}"])
+
+    def test_a_stub_is_a_page(self):
+        for path in moved.STUBS:
+            with open(f"{ROOT}/{path}", encoding="utf-8") as file:
+                self.assertTrue(file.read().startswith("This page has moved: ["), path)
 
 
 class Sizes(unittest.TestCase):

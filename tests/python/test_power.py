@@ -5,6 +5,7 @@ from __future__ import annotations
 import os
 import random
 import sys
+import tempfile
 import unittest
 
 ROOT = os.path.dirname(os.path.dirname(os.path.dirname(os.path.realpath(__file__))))
@@ -84,6 +85,21 @@ class Rules(unittest.TestCase):
     def test_a_refusal_is_found(self) -> None:
         self.shows("refused", "@refused status 65 journal.1 is damaged .")
 
+    def test_a_mount_is_refused_only_by_a_disk_that_fails_no_request(self) -> None:
+        text = "@refused mount can't read superblock ."
+        self.shows("refused", text)
+        found = after()
+        found.boot_anew(3, bank.Dangers(fails=True))
+        found.take(text)
+        self.assertEqual((found.wrongs, found.is_refused, found.is_stuck), ([], False, True))
+
+    def test_a_crew_goes_on_twice_after_a_disk_has_failed(self) -> None:
+        found = after()
+        found.boot_anew(3, bank.Dangers(fails=True))
+        stuck = [found.take("@crew 73 journal.1 .") or found.is_stuck for _ in range(3)]
+        self.assertEqual((stuck, found.wrongs), ([False, False, True], []))
+        self.shows("crew ended with 73", "@crew 73 journal.1 .")
+
     def test_a_run_that_is_gone_is_found(self) -> None:
         self.shows("lost", "@state none .")
 
@@ -112,6 +128,13 @@ class Cuts(unittest.TestCase):
             _, stay = disk.left_of([(8192, BLOCK)], "front", random.Random(seed), 512)
             self.assertEqual([at for at, _ in stay], [8192 + 512 * it for it in range(len(stay))])
 
+    def test_a_moment_after_a_fault_waits_for_the_fault(self) -> None:
+        watch = moments.Watch(moments.of_control(Sure(1), True))
+        watch.hear("performed 1.1 1 .", False)
+        self.assertIsNone(watch.deadline)
+        watch.hear("performed 1.2 2 .", True)
+        self.assertIsNotNone(watch.deadline)
+
     def test_a_moment_waits_for_its_line_and_its_requests(self) -> None:
         watch = moments.Watch(moments.Moment("a line", "begun", 2, 2))
         for line in ("begun 1.1 1 .", "performed 1.1 1 ."):
@@ -123,6 +146,44 @@ class Cuts(unittest.TestCase):
         self.assertIsNone(watch.deadline)
         watch.serve()
         self.assertIsNotNone(watch.deadline)
+
+
+class Faults(unittest.TestCase):
+    """A disk of two blocks that fails one request. What failed is neither read nor kept."""
+
+    def made(self, fault: disk.Fault) -> disk.Disk:
+        self.room = tempfile.TemporaryDirectory()
+        self.addCleanup(self.room.cleanup)
+        path = f"{self.room.name}/disk"
+        with open(path, "wb") as file:
+            file.truncate(2 * len(BLOCK))
+        return disk.Disk(path, "ext4", fault)
+
+    def left(self, fault: disk.Fault, *requests: bytes) -> tuple[list[int], bytes]:
+        """Returns the error of each request, and the first bytes that a cut leaves. An empty one is
+        a flush, and the others are writes."""
+        made = self.made(fault)
+        errors = [made.change(disk.WRITE if it else disk.FLUSH, 0, it, 0) for it in requests]
+        kept = made.kept[:9]
+        made.cut("none", Sure(1))
+        return errors, kept
+
+    def test_only_what_was_flushed_is_kept(self) -> None:
+        self.assertEqual(self.left(disk.NO_FAULT, b"kept", b"", b"lost"),
+                         ([0, 0, 0], b"kept" + bytes(5)))
+
+    def test_a_flush_that_fails_keeps_nothing(self) -> None:
+        self.assertEqual(self.left(("flush", 1), b"kept", b""), ([0, disk.EIO], bytes(9)))
+        self.assertEqual(self.left(("flush", 1), b"kept", b"", b""),
+                         ([0, disk.EIO, 0], b"kept" + bytes(5)))
+
+    def test_a_write_that_fails_is_lost_though_the_next_flush_works(self) -> None:
+        self.assertEqual(self.left(("write", 2), b"kept", b"lost", b""),
+                         ([0, disk.EIO, 0], b"kept" + bytes(5)))
+
+    def test_a_fault_of_an_append_meets_its_last_byte_alone(self) -> None:
+        self.assertEqual(self.left(("append", 1), b"-no recor", b"+no recor", b"-intent 1",
+                                   b"+intent 1", b""), ([0, 0, 0, disk.EIO, 0], b"-intent 1"))
 
 
 if __name__ == "__main__":

@@ -62,8 +62,8 @@ class Processes(unittest.TestCase):
         until(lambda: ended.update(calls.reap()[0]) or ended)
         self.assertEqual(ended, {number: -9})
 
-    def test_more_children_than_one_call_reaps(self):
-        numbers = {self.start("exit 0") for _ in range(2 * calls.ROOM + 1)}
+    def test_many_children_are_reaped(self):
+        numbers = {self.start("exit 0") for _ in range(129)}
         ended = {}
         until(lambda: ended.update(calls.reap()[0]) or len(ended) == len(numbers))
         self.assertEqual(ended, dict.fromkeys(numbers, 0))
@@ -137,15 +137,16 @@ class Processes(unittest.TestCase):
         self.family.file = file
 
     def test_a_list_may_be_longer_than_a_page(self):
-        for numbers in (list(range(4096)), [4194304, 1]):
+        for numbers in (list(range(1, 4097)), [4194304, 1]):
             with tempfile.TemporaryFile() as file:
                 file.write(b"".join(b"%d " % it for it in numbers))
                 file.flush()
-                self.assertEqual(calls.read_children(file.fileno()), numbers)
+                self.assertEqual(calls.read_others(file.fileno()), numbers)
+                self.assertEqual(calls.read_others(file.fileno(), 1), [it for it in numbers if it > 1])
         with tempfile.TemporaryFile() as file:
             file.write(b"1 " * 4097)
             file.flush()
-            self.assertRaises(OSError, calls.read_children, file.fileno())
+            self.assertRaises(OSError, calls.read_others, file.fileno())
 
     def test_processes_that_are_gone_are_left_out(self):
         self.assertEqual(named([0]), [])

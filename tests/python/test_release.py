@@ -1,10 +1,13 @@
 """How a release is packed and tried: the modules of tools/releases."""
 
+import io
 import os
 import subprocess
 import sys
+import tarfile
 import tempfile
 import unittest
+import zipfile
 from unittest import mock
 
 import package
@@ -15,6 +18,7 @@ import follow
 import forms
 import roots
 import tree
+import trials
 
 PAGE = """# A page
 
@@ -129,6 +133,60 @@ class Kept(Room):
             self.assertTrue(roots.is_kept("apt"))
             self.put("kept/apt.list", "python3\n")
             self.assertFalse(roots.is_kept("apt"))
+
+    def test_a_root_that_was_made_in_part_does_not_count(self):
+        """Its list is left of a root that was removed."""
+        self.put("lists/apt", "python3\n")
+        self.put("kept/apt.list", "python3\n")
+
+        def make(words, **_):
+            os.makedirs(words[-2])
+            raise subprocess.CalledProcessError(1, words)
+
+        with mock.patch.multiple(roots, LISTS=f"{self.room}/lists", KEPT=f"{self.room}/kept"):
+            with mock.patch("subprocess.run", make):
+                self.assertRaises(subprocess.CalledProcessError, roots.make, "apt")
+            self.assertFalse(roots.is_kept("apt"))
+            with mock.patch("subprocess.run", lambda words, **_: os.makedirs(words[-2])):
+                roots.make("apt")
+            self.assertTrue(roots.is_kept("apt"))
+
+
+class Spoiled(Room):
+    """Forms of a release, each with a mistake."""
+
+    def test_a_wheel_lacks_one_file_and_keeps_the_modes_of_the_others(self):
+        path = f"{self.room}/a.whl"
+        with zipfile.ZipFile(path, "w") as wheel:
+            for name, mode in (("amo/one", 0o755), ("amo/two", 0o644)):
+                entry = zipfile.ZipInfo(name)
+                entry.external_attr = mode << 16
+                wheel.writestr(entry, name)
+        trials.drop_from_wheel("amo/two")(path)
+        with zipfile.ZipFile(path) as wheel:
+            self.assertEqual([(it.filename, it.external_attr >> 16, wheel.read(it))
+                              for it in wheel.infolist()], [("amo/one", 0o755, b"amo/one")])
+
+    def test_an_archive_of_crates_lacks_one_file(self):
+        path = f"{self.room}/a.tar.gz"
+        with tarfile.open(path, "w:gz") as archive:
+            for name in ("amo-1/lib/one.a", "amo-1/one.a"):
+                entry = tarfile.TarInfo(name)
+                entry.size = 3
+                archive.addfile(entry, io.BytesIO(b"abc"))
+        trials.drop_from_crates("lib/one.a")(path)
+        with tarfile.open(path) as archive:
+            self.assertEqual([(it.name, archive.extractfile(it).read()) for it in archive],
+                             [("amo-1/one.a", b"abc")])
+
+    def test_only_a_failure_of_the_last_case_counts_as_caught(self):
+        case = "a_program_in_c_is_built"
+        for failed in ("release: a program in c is built: FAILED\n",
+                       "one\nrelease: a program in c is built: FAILED\ntwo\n"):
+            self.assertTrue(trials.failed_case(failed, case))
+        for other in ("release: a program in c is built: ok\n",
+                      "release: no rust: FAILED\n", ""):
+            self.assertFalse(trials.failed_case(other, case))
 
 
 if __name__ == "__main__":

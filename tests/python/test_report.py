@@ -13,7 +13,8 @@ import package
 
 from amo_jobs.messages import visible
 from amo_jobs.settings import Settings
-from amo_watch import assets, facts, page, palette, rates, snapshot, texts
+from amo_watch import assets, facts, figures, page, snapshot, texts
+from contrast import contrast, LEAST, TEXTS
 
 sys.path.insert(0, f"{package.ROOT}/tools/modules")
 
@@ -288,31 +289,31 @@ class Snapshots(unittest.TestCase):
             self.assertEqual(lines.texts(set()), {})
 
     def test_no_end_is_expected_without_a_pace(self):
-        self.assertEqual([rates.over_at(100, 9, 0), rates.over_at(100, 0, 2),
-                          rates.over_at(100, 9, 2)], [None, None, 104])
+        self.assertEqual([figures.over_at(100, 9, 0), figures.over_at(100, 0, 2),
+                          figures.over_at(100, 9, 2)], [None, None, 104])
 
 
 class Colours(unittest.TestCase):
     def test_each_text_can_be_read(self):
-        for colours in (palette.LIGHT, palette.DARK):
-            for text in palette.TEXTS:
+        for colours in (assets.LIGHT, assets.DARK):
+            for text in TEXTS:
                 for ground in ("paper", "panel"):
-                    found = palette.contrast(colours[text], colours[ground])
-                    self.assertGreaterEqual(found, palette.LEAST, f"{text} on {ground}")
+                    found = contrast(colours[text], colours[ground])
+                    self.assertGreaterEqual(found, LEAST, f"{text} on {ground}")
 
     def test_contrast_is_that_of_wcag(self):
         # Known pairs: black on white, and the grey that just passes.
-        self.assertAlmostEqual(palette.contrast("#000000", "#ffffff"), 21)
-        self.assertAlmostEqual(palette.contrast("#767676", "#ffffff"), 4.54, 2)
-        self.assertLess(palette.contrast("#777777", "#ffffff"), palette.LEAST)
+        self.assertAlmostEqual(contrast("#000000", "#ffffff"), 21)
+        self.assertAlmostEqual(contrast("#767676", "#ffffff"), 4.54, 2)
+        self.assertLess(contrast("#777777", "#ffffff"), LEAST)
 
     def test_each_colour_of_the_style_is_one_of_the_palette(self):
         rules = assets.RULES
         self.assertFalse(re.search(r"#[0-9a-f]{3,8}\b|rgb|hsl", rules))
-        self.assertEqual(set(re.findall(r"var\(--(\w+)\)", rules)), set(palette.LIGHT))
-        self.assertEqual(set(palette.LIGHT), set(palette.DARK))
+        self.assertEqual(set(re.findall(r"var\(--(\w+)\)", rules)), set(assets.LIGHT))
+        self.assertEqual(set(assets.LIGHT), set(assets.DARK))
         texts_used = set(re.findall(r"(?<![-\w])color:var\(--(\w+)\)", rules))
-        self.assertLessEqual(texts_used, set(palette.TEXTS))
+        self.assertLessEqual(texts_used, set(TEXTS))
 
 
 if __name__ == "__main__":

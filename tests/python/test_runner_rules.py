@@ -71,6 +71,12 @@ def needs_no_acknowledgement(original):
     return answer
 
 
+def forgets_the_kill(original):
+    def start_worker(state):
+        return [it._replace(has_failed=False) for it in original(state)]
+    return start_worker
+
+
 def forgets_all(original):
     def worker_ended(state, it):
         actions = original(state, it)
@@ -112,6 +118,10 @@ def keeps_time(state, serial, attempt):
     return [Send(serial, signal.SIGTERM), Wait(GRACE, serial, 1.0)]
 
 
+def goes_on_at_once(state):
+    return [*runner_rules.way(state, "go"), runner_rules.turn_of_round(state)]
+
+
 def drops_the_line(state, it):
     state.asks = None
     return ORIGINAL[WorkerEnded](state, it)
@@ -145,6 +155,8 @@ MISTAKES = {
     "a worker is started while a command runs":
         (CHANGES.changed("what_next", starts_in_between),
          "a worker is started while a command of the former one runs"),
+    "a restart counts as a first start":
+        (CHANGES.changed("start_worker", forgets_the_kill), "a start of another kind"),
     "no pause":
         (CHANGES.function("restart", lambda state: runner_rules.start_worker(state)),
          "a worker is started again without a pause"),
@@ -160,6 +172,11 @@ MISTAKES = {
          "a worker waits at over"),
     "a line is never performed":
         (CHANGES.handler(Plain.ACKNOWLEDGED, lambda state, it: []), "a line waits for nothing"),
+    "a worker doesn't wait":
+        (CHANGES.function("over", goes_on_at_once),
+         "a worker that performs nothing goes on at once"),
+    "a round after a stop":
+        (CHANGES.function("over", goes_on_at_once), "a round is begun after a stop"),
     "a worker waits for ever":
         (CHANGES.function("way", lambda state, word: []), "a worker waits at over"),
     "what a killed worker asked for is a doubt":
@@ -180,14 +197,17 @@ class Steps(unittest.TestCase):
 
     def setUp(self):
         self.state = State(SETTINGS)
-        self.assertEqual(runner_rules.start_worker(self.state), [StartWorker()])
+        self.assertEqual(runner_rules.start_worker(self.state), [StartWorker(False)])
 
     def take(self, event):
         return runner_rules.take(self.state, event)
 
     def begin(self, serial=1):
+        is_first = not self.state.is_in_round
         begin, *times = self.take(Said(PERFORM, serial, 7, b"pay"))
         self.assertEqual(begin, Begin(serial, 7, b"pay"))
+        if is_first:
+            self.assertEqual(times.pop(), Tell(Report(reports.ROUND)))
         return times
 
     def ended(self, status, serial=1):
@@ -254,7 +274,7 @@ class Steps(unittest.TestCase):
         self.assertEqual(self.take(Elapsed(TIMEOUT, 1))[0], Send(1, signal.SIGTERM))
 
     def test_a_line_that_cannot_be_started_stops(self):
-        self.take(Said(PERFORM, 1, 7, b"pay"))
+        self.begin()
         told = Tell(Report(reports.UNBEGUN, 1, 7, text="why"))
         self.assertEqual(self.take(StartFailed("why")), [Answer("unbegun 1 leave"), told])
         self.assertTrue(self.state.is_stopping)
@@ -296,7 +316,7 @@ class Steps(unittest.TestCase):
         for _ in range(8):
             wait, = self.take(WorkerEnded(KILLED, ""))
             seconds.append(wait.seconds)
-            self.assertEqual(self.take(Elapsed(PAUSE, 0)), [StartWorker()])
+            self.assertEqual(self.take(Elapsed(PAUSE, 0)), [StartWorker(True)])
         self.assertEqual(seconds, [0.1, 0.2, 0.4, 0.8, 1.6, 3.2, 4.0, 4.0])
         self.begin()
         self.ended(0)
@@ -309,11 +329,28 @@ class Steps(unittest.TestCase):
             self.assertEqual(self.take(WorkerEnded(75, ""))[0].seconds, wanted)
             self.take(Elapsed(PAUSE, 0))
 
+    def test_a_worker_whose_part_is_over_goes_on_at_once_and_then_waits(self):
+        tells = Tell(Report(reports.ROUND))
+        for _ in range(2):
+            self.assertEqual(self.take(Said(PERFORM, 1, 7, b"pay"))[-1], tells)
+            self.ended(0)
+            self.assertNotIn(tells, self.take(Said(PERFORM, 2, 7, b"pay")))
+            self.ended(0, 2)
+            self.assertEqual(self.take(Said("over")), [Answer("go"), tells])
+            for seconds in (0.1, 0.2):
+                self.assertEqual(self.take(Said("over")), [Wait(PAUSE, 0, seconds)])
+                self.assertEqual(self.take(Elapsed(PAUSE, 0)), [Answer("go")])
+        self.assertEqual(self.take(Said(PERFORM, 3, 7, b"pay"))[-1], tells)
+        self.ended(0, 3)
+        self.take(WorkerEnded(75, ""))
+        self.take(Elapsed(PAUSE, 0))
+        self.assertEqual(self.take(Said(PERFORM, 4, 7, b"pay"))[-1], tells)
+
     def test_news_end_a_pause(self):
         self.take(Said("over"))
         self.assertEqual(self.take(Plain.NEWS), [Answer("go")])
         self.take(WorkerEnded(75, ""))
-        self.assertEqual(self.take(Plain.NEWS), [StartWorker()])
+        self.assertEqual(self.take(Plain.NEWS), [StartWorker(False)])
         self.assertEqual(self.take(Plain.NEWS), [])
 
     def test_a_worker_that_waits_leaves_if_an_end_was_found(self):

@@ -54,11 +54,13 @@ class Counts(unittest.TestCase):
 
     def test_the_pace_is_the_sum_of_the_runners(self):
         with tempfile.TemporaryDirectory() as run:
-            for number, text in ((1, "1000 50\n"), (2, "1090 20\n"), (3, "damaged\n")):
+            starts = f"\ncrew 1000 900 {'0' * 36}"
+            for number, text in ((1, "1000 50"), (2, f"{'1090 20':32}{starts}{starts}"),
+                                 (3, "damaged\n"), (5, f"{'':32}{starts}")):
                 with open(f"{run}/pace.{number}", "w", encoding="ascii") as file:
                     file.write(text)
             with mock.patch.object(status.time, "time", return_value=1100.0):
-                self.assertEqual(status.pace_of(run, [1, 2, 3, 4]), 0.5 + 2)
+                self.assertEqual(status.pace_of(run, [1, 2, 3, 4, 5]), 0.5 + 2)
 
 
 class Lists(unittest.TestCase):

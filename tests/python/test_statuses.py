@@ -51,7 +51,7 @@ class Pages(unittest.TestCase):
 class Worker(unittest.TestCase):
     def setUp(self):
         rows = re.findall(r"^status_of \(?(\w+).*= (\d+)$",
-                          read("crates/amo_run_dir/specs/Statuses.antt"), re.M)
+                          read("crates/amo_run_faults/specs/Statuses.antt"), re.M)
         self.rows = {name: int(number) for name, number in rows}
 
     def test_each_status_of_the_worker_is_in_the_table(self):
@@ -65,7 +65,7 @@ class Worker(unittest.TestCase):
         self.assertEqual({name: self.rows[name] for name in wanted}, wanted)
 
     def test_the_code_gives_the_statuses_that_are_defined(self):
-        source = read("crates/amo_run_dir/src/error.rt")
+        source = read("crates/amo_run_faults/src/error.rt")
         found = {int(it) for it in re.findall(r"=> (\d+),", source)}
         self.assertLessEqual(set(self.rows.values()), found)
 

@@ -80,7 +80,20 @@ class Turns(unittest.TestCase):
         crate = SimpleNamespace(name="amo_two")
         drawn = [turns.chosen(crate, bodies, part) for part in range(turns.PARTS)]
         self.assertEqual(sorted(map(id, sum(drawn, []))), sorted(map(id, bodies)))
-        self.assertTrue(all(drawn))
+
+    def test_a_crate_has_its_turn_in_every_third_run(self) -> None:
+        bodies = [body(f"f{it}") for it in range(200)]
+        crate = SimpleNamespace(name="amo_two")
+        turns_of_it = [it for it in range(turns.PARTS) if turns.chosen(crate, bodies, it)]
+        first = turns_of_it[0]
+        self.assertEqual(turns_of_it, [first, first + 3, first + 6, first + 9])
+
+    def test_crates_have_their_turns_in_different_runs(self) -> None:
+        crates = [SimpleNamespace(name=f"amo_{it}") for it in range(40)]
+        tried = [[it.name for it in crates if turns.chosen(it, [body("f")], part)]
+                 for part in range(turns.PARTS)]
+        self.assertEqual(sum(map(len, tried)), 40)
+        self.assertTrue(all(len(names) < 20 for names in tried))
 
     def test_bodies_that_share_a_function_go_together(self) -> None:
         bodies = [body("a", "b"), body("c"), body("b", "c"), body("d"), body("c", "e"), body("e")]

@@ -1,6 +1,7 @@
 """The places that have the version: tools/modules/versions.py."""
 
 import os
+import re
 import shutil
 import subprocess
 import sys
@@ -72,6 +73,14 @@ class Places(unittest.TestCase):
             said = subprocess.run([f"{self.room}/{name}", "--version"], stdout=subprocess.PIPE,
                                   stdin=subprocess.DEVNULL, text=True, check=True).stdout
             self.assertEqual(said, f"{name} 7.8.9\n")
+
+    def test_each_past_version_has_left_a_run(self):
+        text = versions.read(f"{package.ROOT}/CHANGELOG.md")
+        past = re.findall(r"^## (\d.*)$", text, re.M)[1:]
+        self.assertEqual(past[-1], "0.1.0")
+        for it in past:
+            path = f"{package.ROOT}/tools/releases/past/{it}/expected"
+            self.assertTrue(os.path.isfile(path), f"{path}: call tools/releases/keep_run")
 
     def test_a_word_that_is_no_version_is_refused(self):
         for word in ("1.2", "v1.2.3", "1.2.3-", "1.2.3 4", ""):

@@ -4,6 +4,7 @@ import json
 import os
 import re
 import shutil
+import signal
 import subprocess
 import sys
 import tempfile
@@ -106,6 +107,16 @@ class Views(unittest.TestCase):
             self.assertEqual(watched.stop(), "no crew is at work in this folder")
             with open(f"{run}/crew", encoding="ascii"):
                 self.assertEqual(watched.crew(), os.getpid())
+
+    def test_the_process_that_has_signed_the_file_and_has_it_open_gets_term(self):
+        with tempfile.TemporaryDirectory() as run:
+            script = f"exec 3<>{run}/crew; echo $$ >&3; echo signed; exec sleep 1000"
+            with subprocess.Popen(["sh", "-c", script], stdout=subprocess.PIPE) as child:
+                child.stdout.readline()
+                watched = live.Live.__new__(live.Live)
+                watched.settings = Settings(run=run)
+                self.assertEqual(watched.stop(), f"sent TERM to {child.pid}; commands go on")
+                self.assertEqual(child.wait(60), -signal.SIGTERM)
 
 
 class Numbers(unittest.TestCase):

@@ -146,7 +146,11 @@ class Parsed(unittest.TestCase):
             what="crew", command=["pay", "{}"], options=words[:6], asked="/no/list", jobs="/real/no/list",
             mark="/real/no/list.run-is", run="/real/no/list.run", results="/real/no/list.run",
             names=["/no/list"], workers=2, grace=1.5)
-        self.assertEqual(found, wanted)
+        self.assertEqual(vars(found), vars(wanted))
+
+    def test_settings_share_no_list(self):
+        Settings().words.append("x")
+        self.assertEqual(Settings().words, [])
 
     def test_each_option_is_a_setting(self):
         fields = set(vars(Settings()))

@@ -2,6 +2,7 @@
 orders of events, and mistakes that are made in the rules."""
 
 import copy
+import enum
 from unittest import mock
 
 import package  # noqa: F401
@@ -32,7 +33,7 @@ class World:
 
     def key(self):
         """Returns what two worlds have in common that need not be searched twice."""
-        return repr(sorted(it for it in vars(self).items() if it[0] != "trace"))
+        return shown({name: it for name, it in vars(self).items() if name != "trace"})
 
     def branches(self, event):
         """Returns how a step may go on, each as the further arguments of `step`."""
@@ -43,6 +44,15 @@ class World:
         self.trace += actions
         for action in actions:
             getattr(self, f"on_{type(action).__name__}")(action, event)
+
+
+def shown(found):
+    """Returns a value as a text, with all that an object of the rules knows but its settings."""
+    if isinstance(found, dict):
+        return repr([(name, shown(it)) for name, it in sorted(found.items())])
+    if hasattr(found, "__dict__") and not isinstance(found, enum.Enum):
+        return shown({name: it for name, it in vars(found).items() if name != "settings"})
+    return repr(found)
 
 
 def copied(found):

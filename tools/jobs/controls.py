@@ -70,7 +70,7 @@ OF_THE_RUNNER = [
     ("goes_on_after_a_stop", [
         'return way(state, "leave") if state.asks_for(0, STAY) else',
         'return [] if state.asks_for(0, STAY) else',
-        'return way(state, "leave") if state.is_stopping or state.found else', 'return'],
+        '    if state.is_stopping or state.found:\n        return way(state, "leave")\n', ''],
      staying.try_stop, "after the stop: .*'go'|is told to leave"),
     ("starts_anew_after_a_round", [
         'self.input.send(f"{text}\\n".encode())',
@@ -99,7 +99,7 @@ OF_FAULTS = [
      held.try_killed_supervisor, "lines were performed, and two had begun"),
     ("supervisor_sees_no_orphan", [
         "        return Orphans(bool(left), described(unseen))", '        return Orphans(False, "")'],
-     unseen.try_runner_killed, TWICE),
+     unseen.try_runner_killed, f"{TWICE}|it is listed while|recorded"),
     ("runner_that_says_nothing_is_killed", [
         "        self.try_locks()\n        ready = self.poll()\n",
         "        self.try_locks()\n        before = monotonic()\n        ready = self.poll()\n"

@@ -20,7 +20,7 @@ from jobs.spoiled import status_of
 
 REPORTS = 4  # the number of the pipe to its supervisor in a runner
 SMALL = 4096  # bytes that a small pipe takes
-LINES = 220  # the reports of so many lines fill two small pipes
+LINES = 320  # the reports of so many lines fill two small pipes
 LOOKS = 10  # in a row, after which nothing is about to happen
 WAITS = 'while ! [ -e "$0/go" ]; do sleep 0.02; done; '
 

@@ -1,24 +1,26 @@
 """What people see of a run: the report, the live view, the numbers for a monitor and `status --follow`
 read without any lock, write nothing, and have the counts of `status`. What a crew reports to others
-has these counts too."""
+has these counts too. The report marks each restart."""
 
 import json
 import os
 import re
 import shlex
 import shutil
+import signal
 import subprocess
 import sys
 import tempfile
+import time
 
 HERE = os.path.dirname(os.path.realpath(__file__))
 sys.path.insert(0, f"{os.path.dirname(HERE)}/modules")
 
 import schemas
 
-from harness.bench import until
-from jobs import storms
-from jobs.scene import DONE, DOUBTFUL, WRITE, changed, want
+from harness.bench import shown, until
+from jobs import storms, unseen
+from jobs.scene import Bench, DONE, DOUBTFUL, WRITE, Wrong, changed, want
 from worker import folder
 
 DOCS = f"{os.path.dirname(os.path.dirname(HERE))}/docs"
@@ -312,10 +314,26 @@ def changes_of(scene, words, **more):
                          stdin=subprocess.DEVNULL, capture_output=True, timeout=240,
                          env=scene.environment(**more))
     want(ran.returncode == DONE, f"{words}: {ran.stderr[-500:]}")
-    calls = [it for it in folder.read(log).decode("utf-8", "replace").splitlines() if scene.run in it]
+    lines = folder.read(log).decode("utf-8", "replace").splitlines()
+    calls = [it for it in whole_calls(lines) if scene.run in it]
     os.unlink(log)
     want(any(re.search(r" open(at2?)?\(", it) for it in calls), "it has read nothing")
     return [it for it in calls if is_change(it)]
+
+
+def whole_calls(lines):
+    """Returns the calls in a log of strace, each in one line, also those that another process interrupted."""
+    begun, calls = {}, []
+    for line in lines:
+        process, _, call = line.partition(" ")
+        call = call.strip()
+        if call.endswith("<unfinished ...>"):
+            begun[process] = call.removesuffix("<unfinished ...>")
+            continue
+        if resumed := re.match(r"<\.\.\. \w+ resumed>(.*)", call):
+            call = begun.pop(process, "") + resumed[1]
+        calls.append(f"{process} {call}")
+    return calls + [f"{process} {call}" for process, call in begun.items()]
 
 
 def is_change(call):
@@ -482,5 +500,79 @@ def try_teller_killed(bench):
     scene.audit()
 
 
+def starts_in(scene, worker):
+    """Returns the starts in the file `pace.P` of a worker, by the tests' own reading: kind, time, id of the boot."""
+    lines = folder.read(f"{scene.run}/pace.{worker}")[32:].decode().split("\n")[1:]
+    return [(kind, int(second), boot) for kind, second, _, boot in (it.split(" ") for it in lines)]
+
+
+def begun_by(scene, worker, but=0):
+    """Waits until a worker's command has begun, at another line than this one. Returns the line."""
+    found = []
+
+    def has_begun():
+        pending = [it for it in scene.look().intents.values() if it.answer is None and it.name().startswith(f"{worker}.")]
+        found[:] = [it.line for it in pending if it.line != but
+                    and ["begun", it.name()] in [told[:2] for told in scene.tales(it.line)]]
+        return found
+
+    until(has_begun, f"worker {worker} has begun a command")
+    return found[0]
+
+
+def process_of(scene, worker):
+    """Returns the process of this worker, by the words of its command line: `work`, the folder, its number."""
+    for process in scene.worker_processes():
+        words = folder.read(f"/proc/{process}/cmdline").decode().split("\0")
+        if words[words.index("work") + 2] == str(worker):
+            return process
+    raise Wrong(f"worker {worker} has no process")
+
+
+def restarted(scene):
+    """Has a worker, its runner and its crew killed, each once, and the machine started anew. The run is so old by then that
+    each of these starts has a mark. All lines are done at the end."""
+    crew = scene.start()
+    line, due = begun_by(scene, 1), time.time() + 3
+    until(lambda: time.time() > due, "the run is three seconds old")
+    os.kill(process_of(scene, 1), signal.SIGKILL)
+    scene.let(f"go.{line}")
+    line = begun_by(scene, 1, line)
+    os.kill(unseen.runner_of(scene), signal.SIGKILL)
+    scene.let(f"go.{line}")
+    begun_by(scene, 1, line)
+    scene.kill_crew(crew)
+    scene.kill(scene.commands())
+    until(lambda: not list(scene.processes()), "all has ended")
+    scene.start_machine()
+    scene.let(*(f"go.{it}" for it in range(1, len(scene.kinds) + 1)))
+    scene.see_out()
+    scene.audit()
+
+
+def try_restarts(bench):
+    """the report marks each start of a killed worker, of a killed runner, and of each crew after the first"""
+    scene = bench.scene(["gated"] * 8, 2)
+    restarted(scene)
+    noted = {worker: starts_in(scene, worker) for worker in (1, 2)}
+    for worker, kind, count in ((1, "worker", 1), (1, "runner", 1), (2, "worker", 0), (2, "runner", 0)):
+        found = [it for it in noted[worker] if it[0] == kind]
+        want(len(found) == count, f"{len(found)} starts in place of {count} are noted as {kind}: {noted[worker]}")
+    want(len({boot for _, _, boot in noted[1]}) == 2, f"other boots than two are noted: {noted[1]}")
+    timeline = report(scene)["timeline"]
+    marks = {(it["kind"], it["time"], worker) for it in timeline["marks"] for worker in it["workers"]}
+    wanted = {(kind, second, worker) for worker in noted for kind, second, _ in noted[worker]
+              if timeline["from"] + 1 < second <= timeline["to"]}
+    want(marks == wanted, f"the marks are {sorted(marks)}, and {sorted(wanted)} are noted")
+    want({kind for kind, _, _ in marks} == {"crew", "runner", "worker"}, f"a kind has no mark: {sorted(marks)}")
+
+
+def try_restarts_replaced(bench):
+    """control: an amo_jobs that keeps the last start alone is caught by the same test"""
+    program = changed(bench.program, f"{bench.room}/restarts", ['"ab") as file', '"wb") as file'])
+    wrong = Bench(program, bench.worker, bench.room, False, bench.seed)
+    return shown("replaced starts", try_restarts, lambda: wrong, "starts in place of 1 are noted as worker", 1)
+
+
 PARTS = {"watched": [try_counts, try_storm_counts, try_follow, try_without_a_lock, try_with_a_lock, try_terminals,
-                     try_refusals, try_told, try_share, try_teller_killed]}
+                     try_refusals, try_told, try_share, try_teller_killed, try_restarts, try_restarts_replaced]}

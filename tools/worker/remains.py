@@ -12,8 +12,8 @@ from worker.folder import read
 from worker.persons import prepared
 from worker.scene import OVER, REFUSED, WORDS, each, finish, want
 
-WRONG = ("amo_worker: folder `THE RUN`: damaged; keep it as it is, and read docs/JOBS.md, `A"
-         " journal is refused`\n")
+WRONG = ("amo_worker: folder `THE RUN`: damaged; keep it as it is, and read"
+         " docs/guide/operating.md, `A journal is refused`\n")
 INTENT = re.compile(rb"intent ([0-9]+) ([0-9]+) [0-9]+")
 
 

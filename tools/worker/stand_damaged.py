@@ -133,5 +133,5 @@ def tell_damage(it):
         say(f"line {line}: " + (f"attempted by {' '.join(names)}" if names else unknown))
     if wrong or wrong_jobs or any(what for _, what in found.values()):
         sys.stdout.flush()
-        raise refused_folder(it, 65, "damaged; keep it as it is, and read docs/JOBS.md, `A journal"
-                                     " is refused`")
+        raise refused_folder(it, 65, "damaged; keep it as it is, and read docs/guide/operating.md,"
+                                     " `A journal is refused`")

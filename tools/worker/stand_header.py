@@ -11,8 +11,8 @@ from stand_journal import KEEP, Appends, appends_of, hex_digits
 
 FILES = ["answers", *(f"journal.{p}" for p in range(1, MOST_WORKERS + 1))]
 LABELS = [b"amo-run", b"round", b"boot", b"givens", b"workers"]
-REFUSED_FILE = ("it is damaged, or was edited; leave it as it is, and read docs/JOBS.md, `A journal"
-                " is refused`")
+REFUSED_FILE = ("it is damaged, or was edited; leave it as it is, and read"
+                " docs/guide/operating.md, `A journal is refused`")
 HEAD = b"amo-words 2\nround %d\nboot %s\ngivens %d %d %d\n"
 
 

@@ -24,6 +24,7 @@ import time
 sys.dont_write_bytecode = True
 sys.path.insert(0, os.path.dirname(os.path.realpath(__file__)))
 
+import stand_memory  # so it comes before the others
 from stand_attempts import COPIES, journal_of
 from stand_calls import LOG, noted
 from stand_clearance import Clearance

@@ -17,7 +17,7 @@ NOT_WHOLE = "it is committed, and isn't whole"
 WRONG_CHECKSUM = "its checksum doesn't fit"
 NO_COMMIT_BYTE = "the byte before it is no commit byte"
 TOO_MUCH = "more follows than an append that was cut off"
-KEEP = "leave the file as it is, and read docs/JOBS.md, `A journal is refused`"
+KEEP = "leave the file as it is, and read docs/guide/operating.md, `A journal is refused`"
 
 
 def hex_digits(data: bytes) -> bytes:

@@ -83,4 +83,4 @@ def is_over(it) -> End:
 def invalid(said: bytes) -> End:
     """Returns the end of a worker whose runner sent this."""
     return End(76, f"runner: its reply `{said.decode(errors='replace')}` is invalid;"
-                   " docs/PROCESSES.md lists the replies")
+                   " docs/protocol.md lists the replies")

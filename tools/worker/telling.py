@@ -127,8 +127,8 @@ def same(scene):
 # of the file with the boot id.)
 NO_FOLDER = "folder `THE RUN`: it is a file, or a link; name the folder itself"
 DAMAGED = "it is damaged, or was edited; undo the edit, or give up this run"
-REFUSED_FILE = ("it is damaged, or was edited; leave it as it is, and read docs/JOBS.md, `A journal"
-                " is refused`")
+REFUSED_FILE = ("it is damaged, or was edited; leave it as it is, and read"
+                " docs/guide/operating.md, `A journal is refused`")
 DAMAGED_ENTRY = ("is damaged, or was edited; undo the edit, or give up this run (with an older copy"
                  " lines would be performed twice)")
 MISSING = ("this file is missing; put it back, or give up this run (without it nobody knows which"
@@ -161,7 +161,7 @@ BOOT = ("boot id `THE BOOT`: it must be one line of 1 to 200 bytes; name another
         " --boot-id")
 IMPOSSIBLE = "has the impossible value 0; stop all workers, and the next round starts with new words"
 CLOSED = "runner: it has ended, or closed its pipe; start both again to go on"
-KEEP = "leave the file as it is, and read docs/JOBS.md, `A journal is refused`"
+KEEP = "leave the file as it is, and read docs/guide/operating.md, `A journal is refused`"
 OTHER_ROUND = ("folder `THE RUN`: the current round cannot be joined; start again when all of its"
                " workers have ended")
 HELP = "; see amo_worker --help"
@@ -306,7 +306,7 @@ def try_lines_of_lives(bench):
         runner = Runner(bench.scene(1, 1), 1)
         runner.take = lambda line, runner=runner, said=said: runner.process.stdin.write(said)
         live(runner)
-        invalid = f"runner: its reply `{shown}` is invalid; docs/PROCESSES.md lists the replies\n"
+        invalid = f"runner: its reply `{shown}` is invalid; docs/protocol.md lists the replies\n"
         want(runner.said == f"amo_worker: {invalid}", runner.said)
 
 
