@@ -1,12 +1,19 @@
-"""The style and the script of the report's page. Both stand in the page itself."""
+"""The style, the colours and the script of the report's page. All stand in the page itself."""
 
 from __future__ import annotations
 
 import base64
 import hashlib
+from typing import Dict
 
-from amo_watch.palette import DARK, LIGHT, rules_of
-
+LIGHT: Dict[str, str] = {
+    "paper": "#ffffff", "panel": "#f1f4f7", "edge": "#c2cad3", "ink": "#1a2027", "soft": "#4d5763",
+    "link": "#0a4fa3", "done": "#136a2b", "failed": "#a3122b", "doubt": "#7a4a00",
+    "pending": "#0a4fa3", "untouched": "#4d5763", "open": "#4d5763"}
+DARK: Dict[str, str] = {
+    "paper": "#11161c", "panel": "#1c242d", "edge": "#46525f", "ink": "#e8edf2", "soft": "#a9b4c0",
+    "link": "#8cc4ff", "done": "#62d37e", "failed": "#ff9a94", "doubt": "#f0bd4e",
+    "pending": "#8cc4ff", "untouched": "#a9b4c0", "open": "#a9b4c0"}
 RULES = """
 *{box-sizing:border-box}
 body{margin:0 auto;max-width:75rem;padding:1rem;background:var(--paper);color:var(--ink);
@@ -20,20 +27,14 @@ outline:3px solid var(--link);outline-offset:2px}
 nav ul{display:flex;flex-wrap:wrap;gap:.25rem 1rem;padding:0;margin:.5rem 0;list-style:none}
 .counts{display:grid;grid-template-columns:repeat(auto-fit,minmax(7rem,1fr));gap:.5rem;
 padding:0;margin:1rem 0}
-.counts div{background:var(--panel);border:1px solid var(--edge);border-radius:.3rem;
-padding:.5rem .75rem}
+.counts div,article{border:1px solid var(--edge);border-radius:.3rem;padding:.5rem .75rem}
+.counts div{background:var(--panel)}
 .counts dt{font-size:.85rem}
 .counts dd{margin:0;font-size:1.5rem;font-weight:600;font-variant-numeric:tabular-nums}
 .done{color:var(--done)}.failed{color:var(--failed)}.doubt{color:var(--doubt)}
 .pending{color:var(--pending)}.untouched{color:var(--untouched)}.open{color:var(--open)}
-article{border:1px solid var(--edge);border-left-width:.4rem;border-radius:.3rem;
-padding:.5rem .75rem;margin:.75rem 0}
-article.doubt,article.pending,article.failed,article.untouched{color:var(--ink)}
-article.doubt{border-left-color:var(--doubt)}article.pending{border-left-color:var(--pending)}
-article.failed{border-left-color:var(--failed)}
-article.untouched{border-left-color:var(--untouched)}
-article h3{font-size:1rem;margin:0}
-article p{margin:.25rem 0}
+article{border-left:.4rem solid;margin:.75rem 0}
+article>*{color:var(--ink)}article h3{font-size:1rem;margin:0}article p{margin:.25rem 0}
 .text{unicode-bidi:isolate;white-space:pre-wrap}
 pre,code{font-family:ui-monospace,"DejaVu Sans Mono",monospace;font-size:.85rem}
 pre{background:var(--panel);margin:.25rem 0;padding:.4rem .6rem;white-space:pre-wrap;
@@ -44,7 +45,6 @@ white-space:pre-wrap;border-radius:.3rem;user-select:all;-webkit-user-select:all
 max-height:12rem;overflow-y:auto}
 details{font-weight:400}
 table{border-collapse:collapse;width:100%;font-size:.9rem;font-variant-numeric:tabular-nums}
-caption{text-align:left;color:var(--soft)}
 th,td{text-align:left;vertical-align:top;padding:.25rem .5rem;border-bottom:1px solid var(--edge)}
 th{background:var(--panel);overflow-wrap:normal}
 .sorted td:not([data-name="Text"]) .text{white-space:nowrap}
@@ -53,8 +53,8 @@ th button{all:unset;cursor:pointer;text-decoration:underline;font-weight:600}
 .lane{display:grid;grid-template-columns:9rem 1fr;gap:.5rem;align-items:center;margin:.2rem 0;
 font-size:.85rem}
 .bars{position:relative;height:1.4rem;background:var(--panel);border:1px solid var(--edge)}
-.bars i,.key i{display:block;height:100%;print-color-adjust:exact;
--webkit-print-color-adjust:exact;background-color:var(--paper)}
+.bars i,.key i,.bar{display:block;print-color-adjust:exact;-webkit-print-color-adjust:exact}
+.bars i,.key i{height:100%;background-color:var(--paper)}
 .bars>i{position:absolute;top:0;min-width:2px;box-shadow:inset -1px 0 var(--paper)}
 .bars.high{height:3rem}
 .bars>i>i{height:auto}
@@ -73,10 +73,14 @@ background-size:6px 6px}
 i.b-untouched{background-image:
 repeating-linear-gradient(0deg,var(--untouched) 0 2px,var(--paper) 2px 5px)}
 i.b-open{border:1px dashed var(--open)}
-.bars b{position:absolute;top:-.2rem;bottom:-.2rem;border-left:2px dotted var(--ink)}
+.bars b{position:absolute;z-index:2;top:-.2rem;bottom:-.2rem;border-left:2px solid;
+box-shadow:0 0 0 1px var(--paper)}
+.bars .m-machine{border-left:5px double}.bars .m-runner{border-left-style:dashed}
+.bars .m-worker{border-left-style:dotted}.bars .sign{position:absolute;top:0;left:-.8rem}
+.sign{display:inline-block;width:1rem;border:1px solid;border-radius:.2rem;text-align:center;
+background:var(--paper);font:700 .65rem/1 system-ui,sans-serif}
 .scale{display:flex;justify-content:space-between;gap:1rem;margin:.2rem 0 0 9.5rem;font-size:.8rem}
-.bar{display:block;height:.8rem;margin:.3rem 0;background:var(--link);print-color-adjust:exact;
--webkit-print-color-adjust:exact}
+.bar{height:.8rem;margin:.3rem 0;background:var(--link)}
 td.wide{width:50%}
 input{font:inherit;color:inherit;background:var(--paper);border:1px solid var(--soft);
 padding:.25rem .5rem;max-width:100%}
@@ -97,6 +101,12 @@ code.command{max-height:none}
 article{break-inside:avoid}
 }
 """
+
+
+def rules_of(colours: Dict[str, str]) -> str:
+    """Returns the colours as the custom properties of CSS."""
+    return "".join(f"--{name}:{colour};" for name, colour in colours.items())
+
 
 STYLE = (f":root{{color-scheme:light dark;{rules_of(LIGHT)}}}"
          f"@media(prefers-color-scheme:dark){{:root{{{rules_of(DARK)}}}}}"

@@ -4,12 +4,13 @@ from __future__ import annotations
 
 from typing import Any, Dict, Iterator
 
+from amo_jobs.runner_state import BY_CREW, RUNNER_AGAIN, WORKER_AGAIN
+from amo_watch import snapshot
 from amo_watch.texts import dated
+from amo_watch.timeline import MACHINE, MEANINGS
 
-KINDS = ("done", "failed", "doubt", "pending", "untouched", "open")
-NAMES = {"done": "done", "failed": "failed", "doubt": "in doubt",
-         "pending": "running or in doubt", "untouched": "untouched",
-         "open": "not started, or opened again"}
+NAMES = {**snapshot.NAMES, "open": "not started, or opened again"}
+SIGNS = {MACHINE: "M", BY_CREW: "C", RUNNER_AGAIN: "R", WORKER_AGAIN: "W"}
 
 
 def timeline(facts: Dict[str, Any]) -> Iterator[str]:
@@ -20,7 +21,7 @@ def timeline(facts: Dict[str, Any]) -> Iterator[str]:
         yield "<p>No line was begun yet.</p></section>"
         return
     yield "<ul class=\"key\">" + "".join(
-        f"<li><i class=\"b-{it}\"></i> {NAMES[it]}</li>" for it in KINDS) + "</ul>"
+        f"<li><i class=\"b-{it}\"></i> {name}</li>" for it, name in NAMES.items()) + "</ul>"
     if found["is_aggregated"]:
         yield ("<p>Each bar stands for all attempts of its worker that began in its time, by their"
                " shares.</p>")
@@ -30,13 +31,29 @@ def timeline(facts: Dict[str, Any]) -> Iterator[str]:
                f" {lane['attempts']} begun</span></span><div class=\"bars{high}\">")
         for bar in lane["bars"]:
             yield bar_of(bar, found)
-        yield "".join(mark_of(it, found) for it in found["marks"]) + "</div></div>"
+        yield "".join(mark_of(it, found) for it in found["marks"]
+                      if lane["worker"] in it["workers"] or it["kind"] == MACHINE) + "</div></div>"
     yield f"<p class=\"scale soft\"><span>{dated(found['from'])}</span>"
     yield f"<span>{dated(found['to'])}</span></p>"
-    if found["marks"]:
-        yield "<p>Dotted lines:</p><ul>" + "".join(
-            f"<li>{dated(it['time'])}: {it['what']}</li>" for it in found["marks"]) + "</ul>"
+    yield from marks(found)
     yield "</section>"
+
+
+def marks(found: Dict[str, Any]) -> Iterator[str]:
+    """Yields what the marks mean, when each was, and which starts have none."""
+    yield "<p>Lines with a letter are marks:</p><ul class=\"key\">" + "".join(
+        f"<li>{sign(it)} {MEANINGS[it].format('workers')}</li>" for it in SIGNS) + "</ul>"
+    items = "".join(f"<li>{sign(it['kind'])} {dated(it['time'])}: {it['what']}</li>"
+                    for it in sorted(found["marks"], key=lambda it: int(it["time"])))
+    yield f"<ul>{items}</ul>" if items else "<p>There is no mark.</p>"
+    yield ("<p>A crew or a runner notes each start just before it. A start has no mark if its"
+           " note could not be written, or was lost in a power cut. A start of the machine has one"
+           " if a worker was started after it, or if it is the last.</p>")
+
+
+def sign(kind: str) -> str:
+    """Returns the letter that stands for a kind of marks."""
+    return f"<span class=\"sign\">{SIGNS[kind]}</span>"
 
 
 def place(seconds: float, found: Dict[str, Any]) -> float:
@@ -55,7 +72,7 @@ def bar_of(bar: Dict[str, Any], found: Dict[str, Any]) -> str:
         title = f"line {bar['line']}, attempt {bar['attempt']}: {NAMES[kind]}"
         return f"<i class=\"b-{kind}\" style=\"{style}\" title=\"{title}\"></i>"
     total = sum(bar["counts"].values())
-    shares = {it: 100 * bar["counts"][it] / total for it in KINDS if it in bar["counts"]}
+    shares = {it: 100 * bar["counts"][it] / total for it in NAMES if it in bar["counts"]}
     parts = "".join(f"<i class=\"b-{it}\" style=\"height:{share:g}%\"></i>"
                     for it, share in shares.items())
     title = ", ".join(f"{count} {NAMES[it]}" for it, count in bar["counts"].items())
@@ -63,8 +80,9 @@ def bar_of(bar: Dict[str, Any], found: Dict[str, Any]) -> str:
 
 
 def mark_of(mark: Dict[str, Any], found: Dict[str, Any]) -> str:
-    """Returns a dotted line at the time of a mark."""
-    return f"<b style=\"left:{place(mark['time'], found):g}%\" title=\"{mark['what']}\"></b>"
+    """Returns a line with a letter at the time of a mark."""
+    return (f"<b class=\"m-{mark['kind']}\" style=\"left:{place(mark['time'], found):g}%\""
+            f" title=\"{mark['what']}\">{sign(mark['kind'])}</b>")
 
 
 def histogram(facts: Dict[str, Any]) -> Iterator[str]:

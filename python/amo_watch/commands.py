@@ -3,18 +3,29 @@
 from __future__ import annotations
 
 import argparse
+import gc
+import json
+import sys
 from typing import Any, Callable, Collection, Dict, List, Tuple
 
 from amo_jobs.settings import Settings
-from amo_jobs.worker import Program
+from amo_jobs.statuses import Status
+from amo_jobs.worker import Program, version
 
 # Each call imports its modules itself: a runner is started often, and needs none of them.
 
 
 def report(settings: Settings, program: Program) -> int:
-    """Prints the report of a run, and returns the exit status."""
-    from amo_watch.report import report as call
-    return call(settings, program)
+    """Prints the report of a run, as a page or as data, and returns the exit status."""
+    from amo_jobs.run_folder import name_run
+    from amo_watch.facts import facts_of
+    from amo_watch.page import page_of
+    name_run(settings, program)
+    gc.disable()  # all that is made here is needed until the end, and 100,000 attempts are much
+    facts = facts_of(settings, program, version())
+    text = f"{json.dumps(facts)}\n" if settings.json else "".join(page_of(facts))
+    sys.stdout.buffer.write(text.encode("utf-8", "replace"))
+    return Status.DONE
 
 
 def watch(settings: Settings, program: Program) -> int:
@@ -53,7 +64,7 @@ OPTIONS: List[Tuple[Collection[str], str, Dict[str, Any]]] = [
                " HTML page)")),
 ]
 ABOUT = {
-    "report": ("Prints a page that shows the whole run: counts, doubts, failures, timeline.",
+    "report": ("Prints a page that shows the whole run: counts, doubts, failures, restarts.",
                "report tonight.txt > report.html", "report --json tonight.txt"),
     "watch": ("Shows a run while it goes on. Keys: q ends the view, d shows doubts, s stops the"
               " crew.", "watch tonight.txt", "watch --run tonight.txt.run"),

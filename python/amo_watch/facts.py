@@ -16,10 +16,10 @@ from amo_jobs.messages import visible
 from amo_jobs.settings import Settings
 from amo_jobs.status import ANSWERS
 from amo_jobs.worker import HERE, TEST_BOOT_ID, Program
-from amo_watch.rates import rates_of
+from amo_watch.figures import rates_of
 from amo_watch.snapshot import Attempt, Snapshot, snapshot_of
 from amo_watch.texts import Lines, Output, outputs_of, quoted
-from amo_watch.timeline import timeline_of
+from amo_watch.timeline import MOST_MARKS, timeline_of
 
 FORMAT = 1  # of the data
 MOST_ROWS, MOST_SLOW = 1000, 20  # rows of a list
@@ -162,6 +162,9 @@ def left_out(facts: Dict[str, Any], lists: Dict[str, List[Attempt]], budget: Bud
     if facts["timeline"]["is_aggregated"]:
         said.append(f"single attempts in the timeline, since there are {facts['attempts']}: each"
                     " bar stands for all attempts that began in its time")
+    if facts["timeline"]["more_marks"]:
+        said.append(f"{facts['timeline']['more_marks']} more marks of the timeline, after the first"
+                    f" {MOST_MARKS}: starts of the machine come first, then those by crews")
     if budget.cut:
         said.append(f"the ends of {budget.cut} texts, and the commands with these texts; to have"
                     f" them: {run.command('doubts')}")

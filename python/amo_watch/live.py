@@ -23,11 +23,11 @@ from amo_jobs.run_folder import name_run
 from amo_jobs.settings import Settings
 from amo_jobs.statuses import Status
 from amo_jobs.worker import Program
-from amo_watch.snapshot import Follower, said_in, Snapshot
+from amo_watch.snapshot import alive, Follower, Snapshot
 from amo_watch.texts import Lines, output_of
 from amo_watch.view import Answer, Facts, picture, summary, View
 
-PART, WAIT, SELDOM = 1 << 20, 0.5, 30.0  # bytes of one read, seconds, seconds between two lines
+WAIT, SELDOM = 0.5, 30.0  # seconds, seconds between two lines
 MOST_OUTPUTS, MOST_TEXTS = 32, 200  # commands whose last output is read, lines with a text
 
 
@@ -39,7 +39,7 @@ class Live:
         self.settings, self.program = settings, program
         self.found, self.texts = Snapshot(), {}  # type: Snapshot, Dict[int, str]
         self.lines = Lines(settings.run)
-        self.follower, self.rest = Follower(program, settings.run), b""
+        self.follower = Follower(program, settings.run)
         used = content(f"{settings.run}/command", True) or {}
         self.view, self.results = View(), used.get("results", settings.run)
 
@@ -49,15 +49,13 @@ class Live:
         ready = select.select([self.follower.file, *others], [], [], seconds)[0]
         if self.follower.file not in ready:
             return False
-        part = os.read(self.follower.file, PART)
-        if not part:
+        said = self.follower.said()
+        if said is None:
             self.begin_again()
-            return False
-        *lines, self.rest = (self.rest + part).split(b"\n")
-        for line in lines:
-            self.found.take(said_in(line, self.program))
+        for it in said or ():
+            self.found.take(it)
         self.read_texts()
-        return bool(lines)
+        return bool(said)
 
     def begin_again(self) -> None:
         """Follows the run anew if a file was replaced meanwhile. Else raises the worker's end."""
@@ -65,8 +63,7 @@ class Live:
         if status != Status.LATER:
             raise End(status if status > 0 else Status.MEMORY, None)
         time.sleep(WAIT)
-        self.follower, self.rest = Follower(self.program, self.settings.run), b""
-        self.found = Snapshot()
+        self.follower, self.found = Follower(self.program, self.settings.run), Snapshot()
 
     def read_texts(self) -> None:
         """Reads the texts of the lines that the view may show."""
@@ -82,13 +79,8 @@ class Live:
         for it in self.found.of("pending")[:MOST_OUTPUTS]:
             ends = [output_of(f"{self.results}/{kind}.{it.name}").end for kind in ("out", "err")]
             outputs[it.name] = next((end[-1] for end in reversed(ends) if end), "")
-        return Facts(self.found, self.texts, outputs, self.alive())
-
-    def alive(self) -> List[int]:
-        """Returns the workers whose runner lives, by its number in a file that it has open."""
-        run = os.path.realpath(self.settings.run)
-        return [it for it in range(1, (self.found.workers or 0) + 1)
-                if signer(f"{run}/runner.{it}")]
+        return Facts(self.found, self.texts, outputs,
+                     alive(self.settings.run, self.found.workers or 0))
 
     def crew(self) -> int:
         """Returns the process of the crew's supervisor; 0 if none is at work. It has signed the
@@ -101,14 +93,9 @@ class Live:
         if not process:
             return "no crew is at work in this folder"
         start = calls.start_of(process)
-        handle = os.pidfd_open(process) if hasattr(os, "pidfd_open") else None
-        if start is None or calls.start_of(process) != start or self.crew() != process:
+        if start is None or self.crew() != process:
             return "the crew has ended meanwhile"
-        if handle is None:
-            os.kill(process, signal.SIGTERM)
-        else:
-            signal.pidfd_send_signal(handle, signal.SIGTERM)
-            os.close(handle)
+        calls.send(calls.Process(process, start), signal.SIGTERM)
         return f"sent TERM to {process}; commands go on"
 
 

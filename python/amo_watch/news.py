@@ -10,15 +10,14 @@ from contextlib import suppress
 from typing import Any, Callable, Dict, Iterable, List, Optional, Set
 
 from amo_jobs.messages import End, reason, visible
-from amo_jobs.processes import signer
 from amo_jobs.settings import Settings
 from amo_jobs.worker import Program
 from amo_watch import metrics
 from amo_watch.chunks import OtherChunks
 from amo_watch.figures import added, figures_of
-from amo_watch.snapshot import Attempt, Follower, said_in, Snapshot, snapshot_of
+from amo_watch.snapshot import alive, Attempt, Follower, Snapshot, snapshot_of
 
-EVERY, PART = 5.0, 1 << 20  # seconds between two files of numbers, bytes of one read
+EVERY = 5.0  # seconds between two files of numbers
 PATIENCE = 10.0  # seconds for the last notifications
 ERRORS = ("line ", "worker ", "crew:")  # how a message of the crew begins that reports an error
 
@@ -33,7 +32,7 @@ class News:
         self.failed: Set[str] = set()
         self.follower: Optional[Follower] = None
         self.began = int(time.time())
-        self.rest, self.due, self.begin_at = b"", 0.0, 0.0
+        self.due, self.begin_at = 0.0, 0.0
         self.error_at: Optional[float] = None
         self.status: Optional[int] = None
         self.children: List["subprocess.Popen[bytes]"] = []
@@ -49,17 +48,15 @@ class News:
 
     def follow(self) -> None:
         """Begins to follow the run. Raises OSError."""
-        self.follower, self.rest = Follower(self.program, self.settings.run), b""
+        self.follower = Follower(self.program, self.settings.run)
 
     def turn(self, ready: List[int]) -> None:
         """Takes what has come, and writes what is due."""
         if self.follower and self.follower.file in ready:
-            part = os.read(self.follower.file, PART)
-            if part:
-                *lines, self.rest = (self.rest + part).split(b"\n")
-                for line in lines:
-                    self.take(said_in(line, self.program))
-            else:
+            said = self.follower.said()
+            for it in said or ():
+                self.take(it)
+            if said is None:
                 self.follower.close()
                 self.follower = None
         self.reap()
@@ -127,9 +124,8 @@ class News:
 
     def numbers(self, works: bool) -> None:
         """Replaces the file of numbers."""
-        alive = sum(1 for worker in range(1, self.settings.workers + 1)
-                    if signer(f"{os.path.realpath(self.settings.run)}/runner.{worker}"))
-        crew = metrics.Crew(alive, works, self.error_at)
+        living = alive(self.settings.run, self.settings.workers)
+        crew = metrics.Crew(len(living), works, self.error_at)
         figures = [figures_of(self.found), *(self.others.figures() if self.others else ())]
         text = metrics.text_of(added(figures), crew, self.settings.shared or self.settings.run)
         if self.settings.metrics:
@@ -165,8 +161,5 @@ class News:
 
 def append(path: str, line: str) -> None:
     """Appends a line to a file, by one call. Raises OSError."""
-    file = os.open(path, os.O_WRONLY | os.O_APPEND | os.O_CREAT | os.O_CLOEXEC, 0o600)
-    try:
-        os.write(file, f"{line}\n".encode())
-    finally:
-        os.close(file)
+    with open(path, "ab", 0, opener=lambda name, flags: os.open(name, flags, 0o600)) as file:
+        file.write(f"{line}\n".encode())

@@ -10,14 +10,13 @@ import shlex
 from typing import Any, Dict, Iterator, Optional
 
 from amo_jobs.messages import visible
-from amo_jobs.status import ANSWERS, lasting
+from amo_jobs.status import ANSWERS
 from amo_watch.assets import policy, SCRIPT, STYLE
 from amo_watch.charts import histogram, timeline
-from amo_watch.texts import dated
+from amo_watch.snapshot import NAMES
+from amo_watch.texts import dated, lasting
 
 LONG = 600  # characters of a text that are shown at once
-WORDS = {"done": "done", "failed": "failed", "doubt": "in doubt",
-         "pending": "running or in doubt", "untouched": "untouched", "open": "open"}
 
 
 def shown(text: Any) -> str:
@@ -66,7 +65,7 @@ def head(facts: Dict[str, Any], name: str) -> Iterator[str]:
            f" <time>{dated(facts['made'])}</time>.</p>")
     yield "<dl class=\"counts\">"
     for kind, count in facts["counts"].items():
-        yield f"<div><dt class=\"{kind}\">{WORDS[kind]}</dt><dd>{count}</dd></div>"
+        yield f"<div><dt class=\"{kind}\">{NAMES[kind]}</dt><dd>{count}</dd></div>"
     yield f"</dl><p>{shown(pace_text(facts))}</p>"
     parts = [("doubts", "In doubt"), ("failures", "Failed"), ("untouched", "Untouched"),
              ("answered", "Answered"), ("timeline", "Timeline"), ("slowest", "Slowest lines"),
@@ -133,7 +132,7 @@ def article(row: Dict[str, Any]) -> str:
     """Returns a line with all that is known of its attempt."""
     return (f"<article class=\"{row['state']}\"><h3>Line {row['line']}: <span class=\"text\">"
             f"{line_text(row)}</span></h3><p><span class=\"{row['state']}\">"
-            f"{WORDS[row['state']]}</span>, attempt {row['attempt']}, begun {dated(row['begun'])},"
+            f"{NAMES[row['state']]}</span>, attempt {row['attempt']}, begun {dated(row['begun'])},"
             f" {end_of(row)}</p>{outputs(row)}{answers(row)}</article>")
 
 
@@ -195,7 +194,7 @@ def standing(row: Dict[str, Any]) -> str:
     """Returns how an attempt stands. An answer counts for its line, not for what was seen."""
     if row["answer"]:
         return "done, as answered" if row["answer"] == "done" else "opened again"
-    return "not started" if row["state"] == "open" else WORDS[row["state"]]
+    return "not started" if row["state"] == "open" else NAMES[row["state"]]
 
 
 def cell(name: str, key: Optional[int], content: str) -> str:

@@ -7,17 +7,21 @@ docs/follow.schema.json describes a line.
 from __future__ import annotations
 
 import json
+import os
 import subprocess
 from typing import Any, Counter, Dict, List, NamedTuple, Optional, Set, Tuple
 
 from amo_jobs.messages import End, visible
+from amo_jobs.processes import signer
 from amo_jobs.statuses import Status
 from amo_jobs.worker import Program
 
-FORMAT = 1  # of the lines
-# How many lines stand how. A line is pending if nobody has looked whether its attempt is over: it
-# is running or in doubt.
-COUNTS = ("done", "failed", "doubt", "pending", "untouched", "open")
+FORMAT, PART = 1, 1 << 20  # of the lines, bytes of one read
+# How a line may stand, and what people read for it. A line is pending if nobody has looked whether
+# its attempt is over.
+NAMES = {"done": "done", "failed": "failed", "doubt": "in doubt",
+         "pending": "running or in doubt", "untouched": "untouched", "open": "open"}
+COUNTS = tuple(NAMES)
 
 # The state of an outcome that nobody answered; `done` with a code above 0 is failed.
 OWN = {**{it: it for it in COUNTS}, "unbegun": "open"}
@@ -93,10 +97,8 @@ class Snapshot:
         self.outcomes.update(it.outcome for it in fresh.values())
         self.ends.update(ended)
         self.count += len(ended)
-        if ended:
-            self.ended = max(ended) if self.ended is None else max(*ended, self.ended)
-        if begun:
-            self.begun = min(begun) if self.begun is None else min(*begun, self.begun)
+        self.ended = max([*ended, *filter(None, [self.ended])], default=None)
+        self.begun = min([*begun, *filter(None, [self.begun])], default=None)
 
     def forget(self, key: Tuple[int, int], it: Attempt) -> None:
         """Doesn't count an attempt any more that has changed."""
@@ -124,6 +126,12 @@ def said_in(line: bytes, program: Program) -> Dict[str, Any]:
                             " give that one by --worker-program, or leave out the option")
 
 
+def alive(run: str, workers: int) -> List[int]:
+    """Returns the workers whose runner lives, by its number in a file that it has open."""
+    path = f"{os.path.realpath(run)}/runner."
+    return [it for it in range(1, workers + 1) if signer(f"{path}{it}")]
+
+
 def words_of(program: Program, run: str, *more: str) -> List[str]:
     """Returns the command that follows a run."""
     return [program.path, "status", run, "--follow", *more, *program.more]
@@ -141,6 +149,7 @@ class Follower:
 
     def __init__(self, program: Program, run: str):
         """Starts it. Raises OSError."""
+        self.program, self.rest = program, b""
         self.process = subprocess.Popen(words_of(program, run), stdin=subprocess.DEVNULL,
                                         stdout=subprocess.PIPE, start_new_session=True)
 
@@ -149,6 +158,13 @@ class Follower:
         """The descriptor by which its lines come."""
         assert self.process.stdout
         return self.process.stdout.fileno()
+
+    def said(self) -> Optional[List[Dict[str, Any]]]:
+        """Returns what the lines say that have come; None at their end. Raises an end, and OSError.
+        """
+        part = os.read(self.file, PART)
+        *lines, self.rest = (self.rest + part).split(b"\n")
+        return [said_in(it, self.program) for it in lines] if part else None
 
     def close(self) -> int:
         """Ends the process, and returns its status; 0 if this call has ended it."""

@@ -64,14 +64,8 @@ def quoted(word: str) -> str:
     """Returns a word as bash reads it, without characters that can't be seen."""
     if word.isprintable():
         return shlex.quote(word)
-    parts = []
-    for it in word:
-        if it in "\\'":
-            parts.append(f"\\{it}")
-        elif it.isprintable():
-            parts.append(it)
-        else:
-            parts.append(escape_of(ord(it)))
+    parts = (f"\\{it}" if it in "\\'" else it if it.isprintable() else escape_of(ord(it))
+             for it in word)
     return f"$'{''.join(parts)}'"
 
 
@@ -87,3 +81,15 @@ def dated(seconds: Optional[int]) -> str:
     """Returns a time in seconds since 1970 as a date, with the offset of this machine's zone."""
     return ("at a time that is not known" if seconds is None
             else time.strftime("%Y-%m-%d %H:%M:%S %z", time.localtime(seconds)))
+
+
+def lasting(seconds: int) -> str:
+    """Returns a number of seconds by its two largest units, rounded down."""
+    sizes = ((86400, "d"), (3600, "h"), (60, "min"), (1, "s"))
+    parts, left = [], seconds
+    for size, unit in sizes:
+        parts.append((left // size, unit))
+        left %= size
+    while len(parts) > 1 and not parts[0][0]:
+        parts.pop(0)
+    return " ".join(f"{count} {unit}" for count, unit in parts[:2] if count or len(parts) == 1)

@@ -2,12 +2,23 @@
 
 from __future__ import annotations
 
+import re
 from contextlib import suppress
-from typing import Any, Dict, List
+from typing import Any, Dict, Iterator, List, Set, Tuple
 
+from amo_jobs.calls import FRONT, this_boot
+from amo_jobs.runner_state import BY_CREW, RUNNER_AGAIN, WORKER_AGAIN
 from amo_watch.snapshot import Attempt, Snapshot
 
 MOST_BARS, PARTS = 5000, 120  # attempts that have a bar each; else so many bars a lane
+MOST_MARKS, MACHINE = 300, "machine"  # marks, the kind of those for starts of the machine
+# The kinds of marks, and what each means. If there are too many, the last ones are left out.
+MEANINGS = {
+    MACHINE: "start of this machine", BY_CREW: "start of {} by a crew, or by amo_jobs work",
+    RUNNER_AGAIN: "restart of {} by the crew, since a runner was killed",
+    WORKER_AGAIN: "restart of {} by the runner, since a worker was killed or had failed"}
+# The line of a start: what it was, when, when the machine was started, and the id of that boot.
+LINE = re.compile(r"(crew|runner|worker) (\d{1,12}) (\d{1,12}) ([0-9a-f-]{36})")
 
 
 def timeline_of(found: Snapshot, run: str) -> Dict[str, Any]:
@@ -18,13 +29,13 @@ def timeline_of(found: Snapshot, run: str) -> Dict[str, Any]:
     lanes: Dict[int, List[Attempt]] = {}
     for it in begun:
         lanes.setdefault(it.worker, []).append(it)
-    is_aggregated = len(begun) > MOST_BARS
+    is_aggregated, marks = len(begun) > MOST_BARS, marks_of(run, first, last)
     bars_in = parts_of if is_aggregated else bars_of
     return {"from": first, "to": last, "is_aggregated": is_aggregated,
             "lanes": [{"worker": worker, "attempts": len(rows),
                        "bars": bars_in(sorted(rows), first, last, found.time)}
                       for worker, rows in sorted(lanes.items())],
-            "marks": marks_of(run, first, last)}
+            "marks": marks[:MOST_MARKS], "more_marks": max(len(marks) - MOST_MARKS, 0)}
 
 
 def ends_at(it: Attempt, now: int) -> int:
@@ -64,16 +75,31 @@ def parts_of(rows: List[Attempt], first: int, last: int, now: int) -> List[Dict[
 
 
 def marks_of(run: str, first: int, last: int) -> List[Dict[str, Any]]:
-    """Returns what else is known of this time: when runners were started last, and when this
-    machine was started last. Earlier starts leave no time behind."""
-    begun: Dict[int, List[int]] = {}
+    """Returns the marks between two times, by kind and time: the starts that are noted, those of a
+    second together; the starts of the machine that these notes have, and the last one."""
+    found: Dict[Tuple[str, int], Set[int]] = {}
+    boots: Dict[str, int] = {}
+    for worker, what, time, booted, boot in starts_of(run):
+        found.setdefault((what, int(time)), set()).add(worker)
+        boots.setdefault(boot, int(booted))
+    with suppress(OSError):
+        boots.setdefault(*this_boot())
+    found.update({(MACHINE, booted): set() for booted in boots.values()})
+    return [mark_of(what, time, sorted(found[what, time])) for kind in MEANINGS
+            for what, time in sorted(found) if what == kind and first + 1 < time <= last]
+
+
+def mark_of(what: str, time: int, workers: List[int]) -> Dict[str, Any]:
+    """Returns a mark: when it was, its kind, the workers, and what it means."""
+    named = f"worker{'s' if len(workers) > 1 else ''} {', '.join(map(str, workers))}"
+    return {"time": time, "kind": what, "workers": workers, "what": MEANINGS[what].format(named)}
+
+
+def starts_of(run: str) -> Iterator[Tuple[int, str, str, str, str]]:
+    """Yields each start in the files `pace.P`: its worker, and the parts of its line. A line that
+    was cut off is none."""
     for worker in range(1, 17):
-        with suppress(OSError, ValueError, IndexError), open(f"{run}/pace.{worker}") as file:
-            begun.setdefault(int(float(file.read().split()[0])), []).append(worker)
-    found = [(second, f"runners began, of worker {', '.join(map(str, workers))}")
-             for second, workers in begun.items()]
-    with suppress(OSError, ValueError, IndexError), open("/proc/stat") as file:
-        boot = [line.split()[1] for line in file if line.startswith("btime ")]
-        found.append((int(boot[0]), "this machine was started"))
-    return [{"time": second, "what": what} for second, what in sorted(found)
-            if first + 1 < second <= last]
+        with suppress(OSError), open(f"{run}/pace.{worker}", "rb") as file:
+            lines = file.read()[FRONT:].decode("ascii", "replace").split("\n")
+            yield from ((worker, it[1], it[2], it[3], it[4])
+                        for it in map(LINE.fullmatch, lines) if it)

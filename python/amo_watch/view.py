@@ -9,15 +9,13 @@ from dataclasses import dataclass
 from typing import Collection, Dict, Iterator, List, NamedTuple, Tuple
 
 from amo_jobs.messages import visible
-from amo_jobs.status import lasting
-from amo_watch.rates import rates_of
-from amo_watch.snapshot import Attempt, Snapshot
+from amo_watch.figures import rates_of
+from amo_watch.snapshot import Attempt, NAMES, Snapshot
+from amo_watch.texts import lasting
 
 Row = Tuple[str, bool]  # a text, and whether it is strong
 MARKS = (("done", "#"), ("failed", "x"), ("doubt", "?"), ("untouched", "="), ("pending", ">"),
          ("open", "."))
-SHORT = {"done": "done", "failed": "failed", "doubt": "in doubt", "pending": "running or in doubt",
-         "untouched": "untouched", "open": "open"}
 FEW, MOST = 16, 400  # rows of a low terminal, characters of a text that are looked at
 KEYS = "q quit  d doubts  s stop the crew"
 ASKED = "Stop the crew? y yes, other keys no"
@@ -81,7 +79,7 @@ def picture(facts: Facts, view: View, width: int, height: int) -> List[Row]:
 def heads(found: Snapshot, width: int, height: int) -> Iterator[Row]:
     """Yields the bar, the counts and the pace. In few rows the pace has one."""
     yield bar(found, width), True
-    counts = [f"{found.counts[state]} {SHORT[state]}" for state, _ in MARKS if found.counts[state]]
+    counts = [f"{found.counts[state]} {NAMES[state]}" for state, _ in MARKS if found.counts[state]]
     yield from ((it, False) for it in wrapped([f"{found.lines} lines:", *counts], width))
     if height < FEW:
         yield brief_pace(found), False
@@ -166,7 +164,7 @@ def doubts(facts: Facts) -> Iterator[str]:
 
 def summary(found: Snapshot) -> str:
     """Returns how far the run is, as one line."""
-    counts = ", ".join(f"{found.counts[state]} {SHORT[state]}" for state, _ in MARKS)
+    counts = ", ".join(f"{found.counts[state]} {NAMES[state]}" for state, _ in MARKS)
     return f"{found.lines} lines: {counts}; {' '.join(pace(found))}"
 
 
