@@ -192,7 +192,8 @@ class File(Words):
     def __init__(self, path: Union[str, "os.PathLike[str]"], workers: int, jobs: int):
         """Raises ValueError if the file belongs to a run with other numbers or to an earlier boot
         of the machine, or if its registers are gone; and OSError."""
-        self._path, length = str(os.fspath(path)), size(workers, jobs)
+        # a link, or another working folder later, leads to the same locks
+        self._path, length = os.path.realpath(path), size(workers, jobs)
         file = os.open(self._path, os.O_RDWR | os.O_CREAT | os.O_CLOEXEC, 0o600)
         try:
             fcntl.flock(file, fcntl.LOCK_EX)  # since another process may make it too
@@ -242,7 +243,7 @@ def note_boot(path: str) -> None:
 
 
 def check_boot(path: str) -> None:
-    """Raises ValueError if the file names another boot. A program in C makes none."""
+    """Raises ValueError if the file names another boot. Older programs in C don't make it."""
     if os.path.exists(path):
         with open(path, encoding="ascii", errors="replace") as file:
             if file.read() != boot():

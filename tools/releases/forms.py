@@ -57,11 +57,10 @@ def make_archive(tree: str, path: str, epoch: int) -> None:
 
 
 def make_others(root: str, forms: str, epoch: int) -> None:
-    """Has the tools of the other forms make them, if the repository has these tools."""
+    """Has the tools of the wheel and the crates make them."""
     for tool in ("wheel", "rust_crates"):
-        if os.path.exists(f"{root}/tools/{tool}"):
-            subprocess.run([f"{root}/tools/{tool}", os.path.abspath(forms)], check=True,
-                           env={**os.environ, "SOURCE_DATE_EPOCH": str(epoch)})
+        subprocess.run([f"{root}/tools/{tool}", os.path.abspath(forms)], check=True,
+                       env={**os.environ, "SOURCE_DATE_EPOCH": str(epoch)})
 
 
 # ---- the packages

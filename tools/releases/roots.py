@@ -16,7 +16,7 @@ HERE = os.path.dirname(os.path.realpath(__file__))
 LISTS = f"{os.path.dirname(os.path.dirname(HERE))}/packaging/roots"
 KEPT = os.environ.get("AMO_ROOTS", "/var/cache/amo-roots.kept")
 SUITE, MIRROR = "bookworm", os.environ.get("AMO_MIRROR", "http://deb.debian.org/debian")
-LONGEST = 1200  # seconds that a script or the making of a root may take
+LONGEST = 3600  # seconds that a script or the making of a root may take
 ENDS = ["setpriv", "--pdeathsig", "KILL"]  # a process that is started so ends with its parent
 ENVIRONMENT = ["PATH=/usr/local/sbin:/usr/local/bin:/usr/sbin:/usr/bin:/sbin:/bin", "HOME=/root",
                "LC_ALL=C.UTF-8", "DEBIAN_FRONTEND=noninteractive"]
@@ -43,14 +43,16 @@ def make(name: str) -> None:
     Raises FileNotFoundError if neither is installed, and SubprocessError if the call fails.
     """
     packages, place = ",".join(packages_of(name)), f"{KEPT}/{name}"
-    shutil.rmtree(place, ignore_errors=True)
+    for path in (place, f"{place}.new"):
+        shutil.rmtree(path, ignore_errors=True)
     os.makedirs(KEPT, exist_ok=True)
     if shutil.which("mmdebstrap"):
         words = ["mmdebstrap", "--mode=root", "--variant=minbase"]
     else:
         words = ["debootstrap", "--variant=minbase"]
-    subprocess.run([*words, f"--include={packages}", SUITE, place, MIRROR], timeout=LONGEST,
-                   stdin=subprocess.DEVNULL, check=True)
+    subprocess.run([*words, f"--include={packages}", SUITE, f"{place}.new", MIRROR],
+                   timeout=LONGEST, stdin=subprocess.DEVNULL, check=True)
+    os.rename(f"{place}.new", place)
     with open(f"{KEPT}/{name}.list", "w", encoding="utf-8") as file:
         file.write("".join(f"{it}\n" for it in packages_of(name)))
 
@@ -67,6 +69,7 @@ def run(name: str, room: str, words: List[str]) -> str:
     """Runs a command in a root, without network, and returns what it printed.
 
     The root stays as it is: changes go to a layer in `room`. The folder `room`/srv is /srv there.
+    The control group has the name of `room`, so several scripts may run at once.
     If the root has systemd, that is its first process, and the command is a unit. Raises
     TimeoutExpired if it takes too long.
     """
@@ -78,7 +81,7 @@ def run(name: str, room: str, words: List[str]) -> str:
         put_unit(room, words)
         first = ["env", "-i", "container=amo", *ENVIRONMENT, "/lib/systemd/systemd",
                  "--unit=trial.service", "--log-target=null", "--show-status=0"]
-    group = f"{room}/groups/amo-trial-{os.getpid()}"
+    group = f"{room}/groups/{os.path.basename(room)}"
     steps = [f"mount -t cgroup2 none {shlex.quote(room)}/groups", f"mkdir -p {shlex.quote(group)}",
              f"echo $$ >{shlex.quote(group)}/cgroup.procs",
              f"{shlex.join(ENDS)} unshare --mount --pid --net --ipc --uts --cgroup --fork"

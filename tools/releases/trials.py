@@ -1,15 +1,20 @@
-"""Tries the packages of a release in roots. Beside them stand packages with a mistake each, which
-the same cases must refuse."""
+"""Tries the packages of a release in roots, several at once. Beside them stand packages with a
+mistake each, which the same cases must refuse. Begin with `all_of`."""
 
 from __future__ import annotations
 
+import concurrent.futures
+import functools
 import glob
 import os
 import re
 import shutil
 import subprocess
+import tarfile
 import tempfile
-from typing import Callable, List, NamedTuple, Tuple
+import time
+import zipfile
+from typing import Callable, Iterator, List, NamedTuple
 
 import roots
 from forms import HOME, LIBRARIES, build_package, debian_version
@@ -29,22 +34,40 @@ CASES = {
     "python": ["no_compiler", "the_wheel_is_installed"],
     "rust": ["the_crates_are_built"],
 }
-# The tools that try the other forms, with what they need, if the repository has them.
-OTHERS = {
-    "python": ["tools/try_wheel", "tools/wheels/*", "tools/c/crews.py", "examples/python/*"],
-    "rust": ["tools/try_rust", "tools/c/crews.py"],
-}
+# The tools that try the wheel and the crates, with what they need.
+TOOLS = ("tools/try_wheel", "tools/try_rust", "tools/wheels/*", "tools/c/crews.py",
+         "examples/python/*")
+# The Debian packages, by their folders, with the place of each in the folder /srv of a root.
+DEBS = {"amo": "forms/amo_*.deb", "libamo-dev": "forms/libamo-dev_*.deb",
+        "newer": "newer/amo_*.deb"}
+
+
+class Files(NamedTuple):
+    """What is tried: the gathered files, the folder with the forms, and their time."""
+
+    tree: str
+    forms: str
+    epoch: int
 
 
 class Spoiled(NamedTuple):
     """A package with a mistake: what is wrong, the package, how it is spoiled, and the root with
-    the cases. The last case must fail, and no other."""
+    the cases. The last case must fail, and no other. `package` is a folder of DEBS, whose files
+    `spoil` changes, or the name of another form, as a pattern."""
 
     name: str
     package: str
     spoil: Callable[[str], None]
     root: str
     cases: List[str]
+
+
+class Result(NamedTuple):
+    """How many cases of a trial passed and failed, and what is to be printed."""
+
+    passed: int
+    failed: int
+    said: str
 
 
 # ---- the mistakes
@@ -72,6 +95,26 @@ def drop(path: str) -> Callable[[str], None]:
     return lambda folder: os.remove(f"{folder}/{path}")
 
 
+def drop_from_wheel(name: str) -> Callable[[str], None]:
+    """Returns a mistake: this file is missing in the wheel."""
+    def spoil(path: str) -> None:
+        with zipfile.ZipFile(path) as old, zipfile.ZipFile(f"{path}.new", "w") as new:
+            for entry in (it for it in old.infolist() if it.filename != name):
+                new.writestr(entry, old.read(entry))
+        os.replace(f"{path}.new", path)
+    return spoil
+
+
+def drop_from_crates(name: str) -> Callable[[str], None]:
+    """Returns a mistake: this file is missing in the archive of the crates."""
+    def spoil(path: str) -> None:
+        with tarfile.open(path) as old, tarfile.open(f"{path}.new", "w:gz") as new:
+            for entry in (it for it in old.getmembers() if not it.name.endswith(f"/{name}")):
+                new.addfile(entry, old.extractfile(entry))
+        os.replace(f"{path}.new", path)
+    return spoil
+
+
 KILL = """
 for it in /proc/[0-9]*; do
     tr '\\000' ' ' <"$it/cmdline" | grep -q 'amo_jobs ' && kill -KILL "${it#/proc/}"
@@ -97,94 +140,107 @@ SPOILED = [
     Spoiled("an amo.pc without the library", "libamo-dev",
             change(f"{LIBRARIES}/pkgconfig/amo.pc", " -lamo", ""), "c",
             ["a_program_in_c_is_built"]),
+    Spoiled("a wheel without its library", "*.whl", drop_from_wheel("amo/libamo.so"), "python",
+            ["the_wheel_is_installed"]),
+    Spoiled("crates without their library", "amo-rust-*", drop_from_crates("lib/libamo_c.a"),
+            "rust", ["the_crates_are_built"]),
 ]
 
 
 # ---- the trials
 
-def is_for(name: str) -> bool:
-    """Returns whether the repository has what is tried in this root."""
-    return all(os.path.exists(f"{ROOT}/{it}") for it in OTHERS.get(name, [])[:1])
+def all_of(names: List[str], files: Files) -> Iterator[Result]:
+    """Tries the packages in these roots, and then those with a mistake. As many trials run at once
+    as there are processors. Yields their results in one order."""
+    if not names:
+        return
+    make_newer(files)
+    calls = [functools.partial(try_packages, name, files) for name in names]
+    calls += [functools.partial(try_spoiled, it, files) for it in SPOILED if it.root in names]
+    with concurrent.futures.ThreadPoolExecutor(os.cpu_count()) as pool:
+        yield from pool.map(lambda it: it(), calls)
 
 
-def prepare(tree: str, forms: str, srv: str, epoch: int) -> None:
+def newer_of(files: Files) -> str:
+    """Returns the folder of the package that apt upgrades to; its file stands beside it."""
+    return f"{files.tree}.packages/newer"
+
+
+def make_newer(files: Files) -> None:
+    """Makes the package that apt upgrades to: the same programs with a later version."""
+    newer, version = newer_of(files), version_of(files.tree)
+    shutil.copytree(f"{files.tree}.packages/amo", newer, symlinks=True)
+    change("DEBIAN/control", f"Version: {debian_version(version)}", f"Version: {NEWER}")(newer)
+    change(f"{HOME}/VERSION", version, NEWER)(newer)
+    drop("DEBIAN/md5sums")(newer)
+    build_package(newer, f"{newer}.deb", files.epoch)
+
+
+def prepare(files: Files, srv: str) -> None:
     """Puts into the folder /srv of a root what the cases need."""
     for name in ("in_root", "cases", "follow.py"):
         copy(f"{HERE}/{name}", srv)
     copy(f"{ROOT}/VERSION", f"{srv}/here")
     shutil.copytree(f"{ROOT}/examples/plans", f"{srv}/here/examples/plans")
     shutil.copytree(f"{ROOT}/tools/releases/past", f"{srv}/here/tools/releases/past")
-    for path in glob.glob(f"{forms}/amo*") + glob.glob(f"{forms}/libamo*"):
+    for path in glob.glob(f"{files.forms}/amo*") + glob.glob(f"{files.forms}/libamo*"):
         copy(path, f"{srv}/forms")
-    for pattern in {it for every in OTHERS.values() for it in every}:
+    for pattern in TOOLS:
         for path in filter(os.path.isfile, glob.glob(f"{ROOT}/{pattern}")):
             copy(path, f"{srv}/here/{os.path.dirname(pattern)}")
-    newer = f"{tree}.packages/newer"
-    if not os.path.isdir(newer):
-        make_newer(f"{tree}.packages/amo", newer, version_of(tree))
-    pack_into(newer, f"{srv}/newer/amo_{NEWER}_amd64.deb", epoch)
+    os.makedirs(f"{srv}/newer")
+    shutil.copy(f"{newer_of(files)}.deb", f"{srv}/newer/amo_{NEWER}_amd64.deb")
     with open(f"{srv}/newer/VERSION", "w", encoding="ascii") as file:
         file.write(f"{NEWER}\n")
 
 
-def make_newer(package: str, newer: str, version: str) -> None:
-    """Makes the files of the package that apt upgrades to: the same programs with a later
-    version."""
-    shutil.copytree(package, newer, symlinks=True)
-    change("DEBIAN/control", f"Version: {debian_version(version)}", f"Version: {NEWER}")(newer)
-    change(f"{HOME}/VERSION", version, NEWER)(newer)
-    drop("DEBIAN/md5sums")(newer)
-
-
-def pack_into(folder: str, path: str, epoch: int) -> None:
-    """Packs the files of a package into a file of a folder, which is made if it is missing."""
-    os.makedirs(os.path.dirname(path), exist_ok=True)
-    build_package(folder, path, epoch)
-
-
-def call(name: str, room: str, cases: List[str]) -> Tuple[int, int, str]:
-    """Returns how many cases passed and failed in a root, and what was printed."""
+def call(name: str, room: str, cases: List[str]) -> Result:
+    """Runs cases in a root, and returns what came of them."""
     try:
         said = roots.run(name, room, ["bash", "/srv/in_root", *cases])
     except subprocess.TimeoutExpired:
-        return 0, 1, f"release: root {name}: FAILED: it took more than {roots.LONGEST} seconds\n"
+        return Result(0, 1, f"release: FAILED: it took more than {roots.LONGEST} seconds\n")
     text, _, last = said.rstrip("\n").rpartition("\n")
     found = COUNTS.fullmatch(last)
     if not found:
-        return 0, 1, f"{said}\nrelease: root {name}: FAILED: it broke off\n"
-    return int(found[1]), int(found[2]), f"{text}\n"
+        return Result(0, 1, f"{said}\nrelease: FAILED: it broke off\n")
+    return Result(int(found[1]), int(found[2]), f"{text}\n")
 
 
-def try_packages(name: str, tree: str, forms: str, epoch: int) -> Tuple[int, int]:
-    """Tries the packages in a root, prints what came of it, and returns the counts."""
+def try_packages(name: str, files: Files) -> Result:
+    """Tries the packages in a root."""
     with tempfile.TemporaryDirectory(prefix="amo-root-") as room:
-        prepare(tree, forms, f"{room}/srv", epoch)
+        prepare(files, f"{room}/srv")
+        begun = time.monotonic()
         passed, failed, said = call(name, room, CASES[name])
-    print(re.sub(r"^release: ", f"release: root {name}: ", said, flags=re.M), end="", flush=True)
-    return passed, failed
+    said = re.sub(r"^release: ", f"release: root {name}: ", said, flags=re.M)
+    took = f"release: root {name}: {time.monotonic() - begun:.0f} seconds\n"
+    return Result(passed, failed, said + took)
 
 
-def try_spoiled(it: Spoiled, tree: str, forms: str, epoch: int) -> bool:
-    """Tries a package with a mistake, and returns whether its last case alone failed. Prints what
-    was printed if not."""
+def put_spoiled(it: Spoiled, files: Files, room: str) -> None:
+    """Puts a package with a mistake in the place of the right one."""
+    if it.package not in DEBS:
+        it.spoil(*glob.glob(f"{room}/srv/forms/{it.package}"))
+        return
+    folder = f"{room}/{it.package}"
+    shutil.copytree(f"{files.tree}.packages/{it.package}", folder, symlinks=True)
+    it.spoil(folder)
+    for path in glob.glob(f"{folder}/DEBIAN/md5sums"):
+        os.remove(path)
+    build_package(folder, *glob.glob(f"{room}/srv/{DEBS[it.package]}"), files.epoch)
+
+
+def try_spoiled(it: Spoiled, files: Files) -> Result:
+    """Tries a package with a mistake. It passes if the last case alone has failed; otherwise what
+    was printed is returned too."""
     with tempfile.TemporaryDirectory(prefix="amo-root-") as room:
-        prepare(tree, forms, f"{room}/srv", epoch)
-        folder = f"{room}/{it.package}"
-        shutil.copytree(f"{tree}.packages/{it.package}", folder, symlinks=True)
-        it.spoil(folder)
-        for path in glob.glob(f"{folder}/DEBIAN/md5sums"):
-            os.remove(path)
-        place = "newer" if it.package == "newer" else "forms"
-        version = debian_version(version_of(tree))
-        end = NEWER if it.package == "newer" else version
-        name = "amo" if it.package == "newer" else it.package
-        pack_into(folder, f"{room}/srv/{place}/{name}_{end}_amd64.deb", epoch)
+        prepare(files, f"{room}/srv")
+        put_spoiled(it, files, room)
         passed, failed, said = call(it.root, room, it.cases)
     caught = failed == 1 and passed == len(it.cases) - 1 and failed_case(said, it.cases[-1])
-    print(f"release: {it.name}, a wrong use: {'ok, caught' if caught else 'FAILED'}", flush=True)
-    if not caught:
-        print(said, end="")
-    return caught
+    text = f"release: {it.name}, a wrong use: {'ok, caught' if caught else 'FAILED'}\n"
+    return Result(int(caught), int(not caught), text + ("" if caught else said))
 
 
 def failed_case(said: str, case: str) -> bool:

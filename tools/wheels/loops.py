@@ -225,6 +225,23 @@ class Numbers(unittest.TestCase):
         del second
         alone(memory).close()
 
+    def test_a_number_that_two_workers_have_by_two_paths(self) -> None:
+        folder, name = os.path.split(self.path)
+        os.symlink(name, f"{self.path}.link")
+        first, here = amo.File(self.path, 1, 3), os.getcwd()
+        try:
+            os.chdir(folder)
+            second = amo.File(f"{name}.link", 1, 3)
+        finally:
+            os.chdir(here)
+        worker = alone(first)
+        with self.assertRaises(amo.Taken):
+            alone(second)
+        # a mistake: another name of the file has locks of its own, so both would perform each job
+        os.link(self.path, f"{self.path}.other")
+        alone(amo.File(f"{self.path}.other", 1, 3)).close()
+        worker.close()
+
     def test_a_worker_that_does_not_wait(self) -> None:
         first = alone(amo.File(self.path, 1, 3))
         began: List[float] = []

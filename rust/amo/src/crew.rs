@@ -41,8 +41,8 @@ fn job_of(value: u64) -> Result<u32, Fault> {
 
 /// A run: so many jobs, shared by so many workers over registers.
 ///
-/// All processes of the run give the same numbers. **For a slice, make one crew**, and share it by
-/// reference: a second one over the same words sees no lock, so jobs are performed twice.
+/// All processes of the run give the same numbers. Threads share a crew by reference, or in an
+/// `Arc`.
 ///
 /// # Examples
 ///
@@ -55,6 +55,22 @@ fn job_of(value: u64) -> Result<u32, Fault> {
 /// let mut paid = vec![];
 /// crew.worker(1)?.run(|job| paid.push(job), |_| ())?;
 /// assert_eq!(paid, [1, 2, 3]);
+/// # Ok(())
+/// # }
+/// ```
+///
+/// A crew over words in memory owns them, or has the only reference to them. So a second crew over
+/// the same words, whose workers would perform jobs twice, doesn't compile:
+///
+/// ```compile_fail,E0499
+/// use std::sync::atomic::AtomicU64;
+///
+/// # fn main() -> Result<(), amo::Fault> {
+/// let mut words: Vec<AtomicU64> = (0..amo::words(1, 3)?).map(|_| AtomicU64::new(0)).collect();
+/// let one = amo::Crew::new(&mut words[..], 1, 3)?;
+/// let two = amo::Crew::new(&mut words[..], 1, 3)?;
+/// one.worker(1)?.run(|job| println!("pay {job}"), |_| ())?;
+/// two.worker(1)?.run(|job| println!("pay {job}"), |_| ())?;
 /// # Ok(())
 /// # }
 /// ```

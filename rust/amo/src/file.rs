@@ -2,7 +2,7 @@
 
 use crate::crew::words;
 use crate::fault::Fault;
-use crate::registers::{Lock, Registers};
+use crate::registers::{self, Lock, Registers};
 use std::ffi::OsString;
 use std::fs::{self, File, OpenOptions};
 use std::io::{self, Write};
@@ -57,8 +57,10 @@ impl MappedFile {
     /// ```
     pub fn open(path: impl AsRef<Path>, workers: u32, jobs: u32) -> Result<MappedFile, Fault> {
         let count = words(workers, jobs)?;
-        let (file, boot) = (opened(path.as_ref())?, beside(path.as_ref(), "boot"));
-        let gate = opened(path.as_ref())?; // of its own, since a mapping keeps its file locked
+        let file = opened(path.as_ref())?;
+        let path = fs::canonicalize(path)?; // so that a link leads to the same locks
+        let boot = beside(&path, "boot");
+        let gate = opened(&path)?; // of its own, since a mapping keeps its file locked
         amo_sys::lock(&gate, true)?; // another process may make the file too
         if file.metadata()?.len() == 0 {
             note_boot(&boot)?;
@@ -70,16 +72,13 @@ impl MappedFile {
             let text = format!(
                 "`{}`: it has {found} bytes, and the registers of this run have {}; give the \
                  numbers of the run that made it, or another path",
-                path.as_ref().display(),
+                path.display(),
                 8 * count
             );
             return Err(io::Error::new(io::ErrorKind::InvalidInput, text).into());
         }
         let map = amo_sys::Map::new(&file, count)?;
-        Ok(MappedFile {
-            path: path.as_ref().to_owned(),
-            map,
-        })
+        Ok(MappedFile { path, map })
     }
 }
 
@@ -125,7 +124,8 @@ fn gone(path: &Path) -> io::Error {
     io::Error::new(io::ErrorKind::InvalidData, text)
 }
 
-/// Refuses a file that names another boot. A program in C makes none.
+/// Refuses a file that names another boot. Without the file, which older programs in C don't make,
+/// nothing is compared.
 fn check_boot(path: &Path) -> io::Result<()> {
     if !path.exists() || fs::read(path)? == fs::read(BOOT)? {
         return Ok(());
@@ -140,11 +140,11 @@ fn check_boot(path: &Path) -> io::Result<()> {
 
 impl Registers for MappedFile {
     fn load(&self, place: usize) -> io::Result<u64> {
-        Registers::load(&self.map[..], place)
+        registers::load(&self.map, place)
     }
 
     fn store(&self, place: usize, value: u64) -> io::Result<()> {
-        Registers::store(&self.map[..], place, value)
+        registers::store(&self.map, place, value)
     }
 
     fn lock(&self, number: u32, waits: bool) -> io::Result<Option<Lock>> {

@@ -11,7 +11,7 @@
 //! let (workers, jobs) = (2, 10);
 //! let words: Vec<AtomicU64> =
 //!     (0..amo::words(workers, jobs)?).map(|_| AtomicU64::new(0)).collect();
-//! let crew = amo::Crew::new(&words[..], workers, jobs)?;
+//! let crew = amo::Crew::new(words, workers, jobs)?;
 //! std::thread::scope(|scope| {
 //!     for number in 1..=workers {
 //!         let crew = &crew;

@@ -3,17 +3,18 @@
 use std::fs::File;
 use std::io;
 use std::sync::atomic::{AtomicU64, Ordering::SeqCst};
-use std::sync::Arc;
 
 /// The registers of a run, which its workers share.
 ///
 /// All are 0 at first, only workers of one run write to them, and all processes see the accesses in
 /// one order. They outlive the processes. [`MappedFile`](crate::MappedFile) has registers for
-/// processes, and a slice of [`AtomicU64`] those for threads.
+/// processes. For threads, a crew takes a `Vec<AtomicU64>`, or a slice as `&mut [AtomicU64]`. So
+/// no second crew can have the same words. A slice that others can reach, `&[AtomicU64]`, is no
+/// `Registers`.
 ///
-/// **If `lock` holds nothing, make sure that no two workers of one number live at once** in
-/// different processes, or in different crews of one process. Otherwise jobs are performed twice,
-/// and nothing shows it.
+/// **If you write registers whose `lock` holds nothing, make sure that no two workers of one
+/// number live at once** in different processes, or in different crews of one process. Otherwise
+/// jobs are performed twice, and nothing shows it.
 ///
 /// # Examples
 ///
@@ -109,58 +110,45 @@ impl Lock {
     }
 }
 
-fn missing(place: usize, count: usize) -> io::Error {
-    let text = format!("register {place}: there are {count}; give those of the whole run");
-    io::Error::new(io::ErrorKind::InvalidInput, text)
+/// Returns the word at this place.
+fn word(words: &[AtomicU64], place: usize) -> io::Result<&AtomicU64> {
+    words.get(place).ok_or_else(|| {
+        let count = words.len();
+        let text = format!("register {place}: there are {count}; give those of the whole run");
+        io::Error::new(io::ErrorKind::InvalidInput, text)
+    })
 }
 
-impl Registers for [AtomicU64] {
-    fn load(&self, place: usize) -> io::Result<u64> {
-        let word = self.get(place).ok_or_else(|| missing(place, self.len()))?;
-        Ok(word.load(SeqCst))
-    }
-
-    fn store(&self, place: usize, value: u64) -> io::Result<()> {
-        let word = self.get(place).ok_or_else(|| missing(place, self.len()))?;
-        word.store(value, SeqCst);
-        Ok(())
-    }
+/// Returns the value of a word.
+pub(crate) fn load(words: &[AtomicU64], place: usize) -> io::Result<u64> {
+    Ok(word(words, place)?.load(SeqCst))
 }
+
+/// Stores a value in a word.
+pub(crate) fn store(words: &[AtomicU64], place: usize, value: u64) -> io::Result<()> {
+    word(words, place)?.store(value, SeqCst);
+    Ok(())
+}
+
+// A crew is the only one over these two, so the numbers that it holds are enough. Through a shared
+// reference or an `Arc` a second crew could have the same words.
 
 impl Registers for Vec<AtomicU64> {
     fn load(&self, place: usize) -> io::Result<u64> {
-        Registers::load(&self[..], place)
+        load(self, place)
     }
 
     fn store(&self, place: usize, value: u64) -> io::Result<()> {
-        Registers::store(&self[..], place, value)
+        store(self, place, value)
     }
 }
 
-impl<R: Registers + ?Sized> Registers for &R {
+impl Registers for &mut [AtomicU64] {
     fn load(&self, place: usize) -> io::Result<u64> {
-        (**self).load(place)
+        load(self, place)
     }
 
     fn store(&self, place: usize, value: u64) -> io::Result<()> {
-        (**self).store(place, value)
-    }
-
-    fn lock(&self, number: u32, waits: bool) -> io::Result<Option<Lock>> {
-        (**self).lock(number, waits)
-    }
-}
-
-impl<R: Registers + ?Sized> Registers for Arc<R> {
-    fn load(&self, place: usize) -> io::Result<u64> {
-        (**self).load(place)
-    }
-
-    fn store(&self, place: usize, value: u64) -> io::Result<()> {
-        (**self).store(place, value)
-    }
-
-    fn lock(&self, number: u32, waits: bool) -> io::Result<Option<Lock>> {
-        (**self).lock(number, waits)
+        store(self, place, value)
     }
 }

@@ -4,6 +4,7 @@ use amo::{Crew, Lock, MappedFile, Registers};
 use std::cell::Cell;
 use std::fs::{self, OpenOptions};
 use std::io::{self, Write};
+use std::os::unix::fs::symlink;
 use std::os::unix::process::ExitStatusExt;
 use std::path::{Path, PathBuf};
 use std::process::{self, Command, ExitStatus};
@@ -184,6 +185,26 @@ fn two_processes_of_one_number() {
     drop(worker);
     // another test's child may have the lock too, until it becomes its program
     assert!(two.worker_when_free(1).is_ok());
+    fs::remove_dir_all(&folder).expect("the folder");
+}
+
+#[test]
+fn two_workers_of_one_number_by_two_paths() {
+    let folder = env::temp_dir().join(format!("amo-paths.{}", process::id()));
+    fs::create_dir(&folder).expect("a folder");
+    let crew_at = |name: &str| {
+        let file = MappedFile::open(folder.join(name), WORKERS, JOBS).expect("a file");
+        Crew::new(file, WORKERS, JOBS).expect("a crew")
+    };
+    let one = crew_at("words");
+    symlink("words", folder.join("link")).expect("a link");
+    let two = crew_at("link");
+    let worker = one.worker(1).expect("nobody has this number");
+    assert!(matches!(two.worker(1), Err(amo::Fault::Taken(1))));
+    // a mistake: another name of the file has locks of its own, so both would perform each job
+    fs::hard_link(folder.join("words"), folder.join("other")).expect("a name");
+    assert!(crew_at("other").worker(1).is_ok());
+    drop(worker);
     fs::remove_dir_all(&folder).expect("the folder");
 }
 

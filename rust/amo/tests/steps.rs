@@ -11,7 +11,7 @@ const NEVER: u32 = u32::MAX;
 
 /// Registers of which each access fails once so many were made, before it or after it.
 struct Dying<'a> {
-    words: &'a [AtomicU64],
+    words: &'a mut [AtomicU64],
     left: Cell<u32>,
     is_made: bool,
     forgets: Cell<bool>, // whether loads show 0 until the first store, which is a mistake
@@ -64,7 +64,7 @@ enum Mistake {
 
 /// One life of a worker, which ends it at an access. Returns true if it has ended on its own.
 fn live(
-    words: &[AtomicU64],
+    words: &mut [AtomicU64],
     number: u32,
     dies_at: (u32, bool),
     mistake: Mistake,
@@ -101,12 +101,12 @@ fn live(
 /// jobs, and true if worker 1 didn't die.
 fn run(first: (u32, bool), second: (u32, bool), mistake: Mistake) -> (Vec<u32>, bool) {
     let count = amo::words(WORKERS, JOBS).expect("the numbers keep the limits");
-    let words: Vec<AtomicU64> = (0..count).map(|_| AtomicU64::new(0)).collect();
+    let mut words: Vec<AtomicU64> = (0..count).map(|_| AtomicU64::new(0)).collect();
     let mut performed = Vec::new();
-    let has_ended = live(&words, 1, first, mistake, &mut performed);
-    live(&words, 2, (NEVER, false), Mistake::None, &mut performed);
-    live(&words, 1, second, mistake, &mut performed);
-    live(&words, 1, (NEVER, false), mistake, &mut performed);
+    let has_ended = live(&mut words, 1, first, mistake, &mut performed);
+    live(&mut words, 2, (NEVER, false), Mistake::None, &mut performed);
+    live(&mut words, 1, second, mistake, &mut performed);
+    live(&mut words, 1, (NEVER, false), mistake, &mut performed);
     performed.sort_unstable();
     (performed, has_ended)
 }
@@ -157,7 +157,7 @@ fn forgotten_registers_that_do_not_show() {
 fn a_next_job_that_is_claimed_as_one_is_recorded() {
     let count = amo::words(1, 3).expect("valid numbers");
     let words: Vec<AtomicU64> = (0..count).map(|_| AtomicU64::new(0)).collect();
-    let crew = Crew::new(&words[..], 1, 3).expect("a crew");
+    let crew = Crew::new(words, 1, 3).expect("a crew");
     let mut worker = crew.worker(1).expect("nobody has this number");
     match worker.step().expect("no fault") {
         Step::Perform(job) => job.done().expect("no fault"),
