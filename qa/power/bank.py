@@ -16,6 +16,7 @@ KINDS = "done failed doubt running untouched open".split()
 CREW_ENDS = {0, 2, 69, 75}
 KILLED = {71, 137}  # a crew or a command that was killed, or whose amo_worker was
 FAULTY = {73, 74, 125}  # a file can't be written or read, as on a disk that fails
+MOST_FAULTY = 3  # crews that end so in one boot; then the file system takes nothing any more
 TO_WAIT = 75
 OF_PROCESSES = "begin before after receives replies gone".split()
 CALLS = [*OF_PROCESSES, "starts", "started", "ended"]  # how lines of the log of calls begin
@@ -59,7 +60,7 @@ class Bank:
         self.alive: Set[str] = set()  # processes that the log of calls has
         self.boot_ids: Set[str] = set()
         self.boot, self.dangers, self.is_first_look = 0, Dangers(), True
-        self.allowed = CREW_ENDS
+        self.allowed, self.faulty = CREW_ENDS, 0
         self.last: Optional[dict] = None  # how the lines stood last
         self.is_over = self.is_stuck = self.is_refused = False
 
@@ -71,6 +72,7 @@ class Bank:
         self.calls += [f"gone {it}" for it in sorted(self.alive)]
         self.alive.clear()
         self.boot, self.dangers, self.is_first_look, self.is_stuck = boot, dangers, True, False
+        self.faulty = 0
         self.allowed = (CREW_ENDS | (KILLED if dangers.has_kills else set())
                         | (FAULTY if dangers.fails or dangers.fills else set()))
 
@@ -170,7 +172,8 @@ class Bank:
     def take_crew(self, rest: str) -> None:
         code = int(rest.split()[0])
         self.counts[f"crew ended with {code}"] += 1
-        self.is_stuck = code in FAULTY and self.dangers.fails
+        self.faulty += code in FAULTY
+        self.is_stuck = self.dangers.fails and self.faulty == MOST_FAULTY
         if code not in self.allowed:
             self.wrong(f"crew ended with {code}", rest)
 
@@ -184,6 +187,9 @@ class Bank:
             self.counts["looks that were killed"] += 1
         elif self.allowed >= FAULTY and re.match("status 7[34]", rest):
             self.counts["looks that failed"] += 1
+        elif self.dangers.fails and rest.startswith("mount"):  # the next boot must mount it
+            self.counts["mounts that failed"] += 1
+            self.is_stuck = True
         else:
             self.is_refused = True
             self.wrong("refused", rest)
@@ -191,7 +197,7 @@ class Bank:
     def take_state(self, rest: str) -> None:
         """Compares the statuses of the lines, as the program prints them, with the book."""
         if rest == "none":
-            if self.performed:
+            if self.performed and not self.dangers.fails:  # that disk may give no name any more
                 self.wrong("lost", f"no run, and {len(self.performed)} lines are performed")
             return
         text, _, numbers = rest.partition(" open")

@@ -23,9 +23,13 @@ CONTROLS: Dict[str, Control] = {
                         MISTAKEN._replace(syncs="none"), TWICE),
     "unacknowledged": Control("amo_worker acknowledges an append after its write alone",
                               MISTAKEN._replace(syncs="unacknowledged"), TWICE),
+    "joined": Control("the tests' own worker: it goes on with registers of an earlier boot, without"
+                      " clearance", MISTAKEN._replace(mistake="joined", lines=60), TWICE),
     "journal": Control("bench/worker_flock, a journal under flock, whose syncs do nothing",
                        MISTAKEN._replace(partner="journal", syncs="none"), TWICE),
     "parallel": Control("GNU parallel with --resume", MISTAKEN._replace(partner="parallel"), TWICE),
+    "deaf": Control("amo_worker goes on after a sync has failed",
+                    MISTAKEN._replace(syncs="deaf", faults=1.0), TWICE),
     "lies": Control("a disk that acknowledges a flush and does nothing",
                     MISTAKEN._replace(lies=True), TWICE),
     "late-intent": Control("the tests' own worker: it records an intent after the act",

@@ -13,21 +13,23 @@ import random
 import socket
 import struct
 import subprocess
-from typing import Callable, Dict, Iterator, List, NamedTuple, Optional, Tuple
+from operator import ne
+from typing import Callable, Dict, Iterator, List, NamedTuple, Tuple
 
 # The bytes that a disk writes whole. README.md says why they differ.
 SECTOR = {"ext4": 512, "xfs": 4096, "btrfs": 4096}
 SUPERBLOCK = range(1024, 2048)  # of ext4; it is written whole
-MAGIC, OPTION_MAGIC, REPLY_MAGIC = b"NBDMAGICIHAVEOPT", 0x3E889045565A9, 0x67446698
-INFO, GO, ACKNOWLEDGED, IS_INFO, UNKNOWN = 6, 7, 1, 3, 0x80000001
-READ, WRITE, DISCONNECT, FLUSH = 0, 1, 2, 3
+# The greeting in NBD's old form, which offers nothing to agree on.
+MAGIC, OLD_MAGIC, REPLY_MAGIC = b"NBDMAGIC", 0x420281861253, 0x67446698
 HAS_FLAGS, SENDS_FLUSH, SENDS_FUA, FORCED = 1, 4, 8, 1
+READ, WRITE, DISCONNECT, FLUSH = 0, 1, 2, 3
 HEAD, MOST_READ, EIO = 28, 1 << 20, 5
+RECORD = b"intent "  # in each write that has a page of a journal
 # How a cut treats what wasn't flushed; see `left_of`.
 HOWS = ("none", "all", "drawn", "drawn", "front", "writes")
 
 Piece = Tuple[int, bytes]  # a place, and the bytes there
-Fault = Tuple[str, int]  # `write` or `flush`, and which one of them fails once, from 1
+Fault = Tuple[str, int]  # `write`, `flush` or `append`, and which one of them fails once, from 1
 NO_FAULT: Fault = ("", 0)
 
 
@@ -49,13 +51,15 @@ class Disk:
         self.path, self.fs, self.fault, self.lies = path, fs, fault, lies
         self.log: List[Entry] = []
         self.loose: List[Piece] = []
-        self.counts: Dict[str, int] = {"write": 0, "flush": 0, "read": 0, "failed": 0}
+        self.counts: Dict[str, int] = dict.fromkeys("write append flush read failed".split(), 0)
         self.mark: Callable[[], int] = lambda: 0
         self.served: Callable[[], None] = lambda: None
         copy_sparse(path, f"{path}.now")
         self.kept, self.now = mapped(path), mapped(f"{path}.now")
-        self.connection: Optional[socket.socket] = None
-        self.rest, self.is_talking, self.has_flags = b"", False, False
+        self.connection, self.of_qemu = socket.socketpair()
+        flags, self.rest = HAS_FLAGS | SENDS_FLUSH | SENDS_FUA, b""
+        greeting = struct.pack(">QQI124x", OLD_MAGIC, len(self.now), flags)
+        self.connection.sendall(MAGIC + greeting)
 
     def note(self, kind: str, place: int = 0, data: bytes = b"") -> None:
         self.log.append(Entry(kind, place, data, self.mark()))
@@ -83,70 +87,25 @@ class Disk:
             self.note("force", place, data)
         self.note("cut")
         put_all(self.kept, stay)
+        self.connection.close()
+        self.of_qemu.close()
         self.kept.close()
         self.now.close()
         os.unlink(f"{self.path}.now")
         return count, len(stay)
 
-    def listen(self, path: str) -> socket.socket:
-        """Returns the socket at this path to which qemu will connect."""
-        self.listener = socket.socket(socket.AF_UNIX)
-        self.listener.bind(path)
-        self.listener.listen()
-        return self.listener
-
-    def accept(self) -> socket.socket:
-        """Takes qemu's connection."""
-        self.connection, _ = self.listener.accept()
-        self.connection.sendall(MAGIC + struct.pack(">H", HAS_FLAGS))
-        return self.connection
-
-    def hang_up(self) -> None:
-        """Closes the connection."""
-        for it in (self.connection, self.listener):
-            if it:
-                it.close()
-
     def serve(self) -> bool:
-        """Reads what has come, and answers each whole request. Returns False at the end."""
-        assert self.connection
+        """Reads what has come, and serves each whole request. Returns False at the end."""
         data = self.connection.recv(MOST_READ)
         self.rest += data
         place = 0
-        while taken := (self.take if self.is_talking else self.agree)(self.rest[place:place + HEAD],
-                                                                    place):
+        while taken := self.take(self.rest[place:place + HEAD], place):
             place += taken
         self.rest = self.rest[place:]
         return bool(data)
 
-    def agree(self, head: bytes, place: int) -> int:
-        """Returns an option of the client. Returns how many bytes it has; 0 if it isn't whole."""
-        assert self.connection
-        if not self.has_flags:
-            self.has_flags = len(head) >= 4
-            return 4 if self.has_flags else 0
-        if len(head) < 16:
-            return 0
-        _, option, length = struct.unpack(">QII", head[:16])
-        if len(self.rest) - place < 16 + length:
-            return 0
-        if option in (INFO, GO):
-            flags = HAS_FLAGS | SENDS_FLUSH | SENDS_FUA
-            self.reply_option(option, IS_INFO, struct.pack(">HQH", 0, len(self.now), flags))
-            self.reply_option(option, ACKNOWLEDGED)
-            self.is_talking = option == GO
-        else:
-            self.reply_option(option, UNKNOWN)
-        return 16 + length
-
-    def reply_option(self, option: int, kind: int, data: bytes = b"") -> None:
-        assert self.connection
-        head = struct.pack(">QIII", OPTION_MAGIC, option, kind, len(data))
-        self.connection.sendall(head + data)
-
     def take(self, head: bytes, place: int) -> int:
-        """Answers a request. Returns how many bytes it has; 0 if it isn't whole."""
-        assert self.connection
+        """Serves a request. Returns how many bytes it has; 0 if it isn't whole."""
         if len(head) < HEAD:
             return 0
         _, flags, kind, handle, at, length = struct.unpack(">IHHQQI", head)
@@ -166,11 +125,16 @@ class Disk:
             self.served()
         return size
 
+    def appends(self, at: int, data: bytes) -> bool:
+        """Returns whether a write completes an append to a journal: it changes one byte."""
+        return RECORD in data and sum(map(ne, self.now[at:at + len(data)], data)) == 1
+
     def change(self, kind: int, at: int, data: bytes, is_forced: int) -> int:
         """Takes a write or a flush, and returns the error number. One that fails does nothing."""
-        name = "write" if kind == WRITE else "flush"
-        self.counts[name] += 1
-        if (name, self.counts[name]) == self.fault:
+        names = ["write", "append"][:1 + self.appends(at, data)] if kind == WRITE else ["flush"]
+        for name in names:
+            self.counts[name] += 1
+        if self.fault in [(it, self.counts[it]) for it in names]:
             self.counts["failed"] += 1
             return EIO
         if kind == WRITE:

@@ -21,11 +21,9 @@ WORKER = f"{TOP}/crates/amo_worker/out/amo_worker"
 BASE = ("virtio_ring", "virtio", "virtio_pci", "virtio_blk", "virtio_console")
 # Modules of the guest's file systems. The kernels of Debian have ext4 built in.
 OF_FILE_SYSTEM: Dict[str, tuple] = {"ext4": (), "xfs": ("xfs",), "btrfs": ("btrfs",)}
-FOLDERS = "bin proc sys dev tmp data modules usr".split()
 # Of a program that the guest needs, the Debian package that has it.
 PACKAGES = {"qemu-system-x86_64": "qemu-system-x86", "busybox": "busybox-static", "cc": "gcc",
             "mkfs.ext4": "e2fsprogs", "mkfs.xfs": "xfsprogs", "mkfs.btrfs": "btrfs-progs"}
-ENTRY = b"070701" + 13 * b"%08X"  # an entry of the archive, in the form `newc` of cpio
 
 
 class Guest(NamedTuple):
@@ -66,7 +64,7 @@ class Tree:
 
     def __init__(self, root: str):
         self.root = root
-        for name in FOLDERS:
+        for name in "bin proc sys dev tmp data modules usr".split():
             os.makedirs(f"{root}/{name}")
 
     def put(self, source: str, name: str) -> None:
@@ -84,28 +82,11 @@ class Tree:
         for path in re.findall(r"(/[^ ]+) \(0x", ran.stdout):
             self.put(path, path)
 
-    def archive(self) -> bytes:
-        """Returns all files as an archive that the kernel unpacks."""
-        found = [f"{folder}/{name}" for folder, folders, names in os.walk(self.root)
-                 for name in folders + names]
-        return b"".join([*map(self.entry, sorted(found)), entry(b"TRAILER!!!", 0, b"")])
-
-    def entry(self, path: str) -> bytes:
-        """Returns the entry of one file, folder or link."""
-        name = os.path.relpath(path, self.root).encode()
-        if os.path.islink(path):
-            return entry(name, 0o120777, os.fsencode(os.readlink(path)))
-        if os.path.isdir(path):
-            return entry(name, 0o040755, b"")
-        with open(path, "rb") as file:
-            return entry(name, 0o100755, file.read())
-
-
-def entry(name: bytes, mode: int, data: bytes) -> bytes:
-    """Returns an entry of the archive; its parts are padded to words of 4 bytes."""
-    size = len(name) + 1
-    head = ENTRY % (0, mode, 0, 0, 1, 0, len(data), 0, 0, 0, 0, size, 0) + name + b"\0"
-    return head + bytes(-len(head) % 4) + data + bytes(-len(data) % 4)
+    def pack(self, path: str) -> None:
+        """Packs all files into an archive that the kernel unpacks."""
+        with open(path, "wb") as file:
+            subprocess.run("find . | busybox cpio -o -H newc", shell=True, cwd=self.root,
+                           stdout=file, stderr=subprocess.DEVNULL, check=True)
 
 
 def modules_of(folder: str, names: List[str]) -> Dict[str, str]:
@@ -132,28 +113,24 @@ def put_amo(tree: Tree, worker: str) -> None:
     tree.put_program(os.path.realpath(PYTHON), "bin/python3")
     for name in ("amo_jobs", "VERSION"):
         tree.put(f"{TOP}/{name}", f"amo/{name}")
-    if worker.endswith(".py"):  # the tests' own worker takes its place
-        tree.put(f"{HERE}/guest/stand_in", "amo/amo_worker")
-    else:
-        tree.put_program(worker, "amo/amo_worker")
+    tree.put_program(worker, "amo/amo_worker")
     code = "import sys; sys.path.insert(0, sys.argv[1]); from amo_jobs.library import build;" \
            " build(sys.argv[2])"
     built = f"{tree.root}.calls"
     subprocess.run([PYTHON, "-I", "-S", "-c", code, f"{TOP}/python", built], check=True)
     tree.put_program(built, "amo/python/out/calls.so")
-    os.unlink(built)
 
 
 def put_own(tree: Tree) -> None:
     """Puts what this folder has for the guest."""
-    for name, place in (("init", "init"), ("syncs_worker", "amo/syncs_worker"),
-                        ("stand_in", "amo/stand_in")):
+    for name, place in (("init", "init"), ("mistaken_worker", "amo/mistaken_worker"),
+                        ("joined.py", "amo/joined.py")):
         tree.put(f"{HERE}/guest/{name}", place)
     tree.put(f"{TOP}/bench/worker_flock", "amo/worker_flock")
     options = "cc -std=gnu11 -O2 -Wall -Wextra -Werror".split()
-    for name in ("pay", "say"):
-        subprocess.run([*options, "-static", "-o", f"{tree.root}/bin/{name}",
-                        f"{HERE}/guest/{name}.c"], check=True)
+    subprocess.run([*options, "-static", "-o", f"{tree.root}/bin/pay", f"{HERE}/guest/pay.c"],
+                   check=True)
+    os.symlink("pay", f"{tree.root}/bin/say")
     subprocess.run([*options, "-shared", "-fPIC", "-o", f"{tree.root}/amo/syncs.so",
                     f"{HERE}/guest/syncs.c"], check=True)
 
@@ -200,7 +177,5 @@ def build(room: str, root: str, worker: str, with_parallel: bool) -> Guest:
         modules[fs] = list(found)
         for name, path in found.items():
             tree.put(path, f"modules/{name}.ko")
-    with open(f"{room}/archive", "wb") as file:
-        file.write(tree.archive())
-    shutil.rmtree(tree.root)
+    tree.pack(f"{room}/archive")
     return Guest(f"{root}/boot/vmlinuz-{release}", f"{room}/archive", release, modules)

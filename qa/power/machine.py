@@ -6,6 +6,7 @@ pipe before it returns, so a line can't be lost with the guest.
 
 from __future__ import annotations
 
+import contextlib
 import fcntl
 import os
 import selectors
@@ -18,13 +19,15 @@ from disk import Disk
 from guest import Guest
 
 KERNEL_WORDS = ("console=ttyS0 quiet panic=-1 mitigations=off nokaslr tsc=reliable no_timer_check"
-                " random.trust_cpu=on rcupdate.rcu_expedited=1")
-MACHINE = ("qemu-system-x86_64 -accel tcg -M q35 -cpu Nehalem,+rdrand -m 256 -nodefaults"
-           " -display none -no-reboot -device virtio-serial-pci,ioeventfd=off"
+                " random.trust_cpu=on rcupdate.rcu_expedited=1 init_on_alloc=0 cryptomgr.notests"
+                " apparmor=0 selinux=0 audit=0")  # without these and qboot, a boot takes 2 s more
+MACHINE = ("qemu-system-x86_64 -accel tcg -M q35 -bios qboot.rom -cpu Nehalem,+rdrand -m 256"
+           " -nodefaults -display none -no-reboot -device virtio-serial-pci,ioeventfd=off"
            " -device virtconsole,chardev=port -device virtio-blk-pci,drive=disk,write-cache=on")
 NBD = ("driver=raw,node-name=disk,cache.direct=off,cache.no-flush=off,file.driver=nbd,"
-       "file.server.type=unix,file.server.path=")
+       "file.server.type=fd,file.server.str=")
 PIPE_SIZE = 1 << 20  # bytes; qemu drops what doesn't fit
+SET_PIPE_SIZE = 1031  # F_SETPIPE_SZ, which Python names from 3.10 on
 WHOLE = b" ."
 
 
@@ -37,18 +40,19 @@ class Machine:
         self.hear_line, self.disk, self.rest, self.is_cut = hear, disk, b"", False
         self.room = tempfile.mkdtemp()
         self.selector = selectors.DefaultSelector()
-        self.listener = disk.listen(f"{self.room}/disk")
-        self.selector.register(self.listener, selectors.EVENT_READ)
+        self.selector.register(disk.connection, selectors.EVENT_READ)
         appended = " ".join([KERNEL_WORDS, *(f"{name}={value}" for name, value in words.items())])
         with open(f"{self.room}/qemu", "wb") as errors:
             self.process = subprocess.Popen(
                 [*MACHINE.split(), "-kernel", guest.kernel, "-initrd", guest.archive,
                  "-append", appended, "-serial", f"file:{self.room}/console",
-                 "-chardev", "stdio,id=port,signal=off", "-blockdev", f"{NBD}{self.room}/disk"],
-                stdin=subprocess.PIPE, stdout=subprocess.PIPE, stderr=errors)
+                 "-chardev", "stdio,id=port,signal=off",
+                 "-blockdev", f"{NBD}{disk.of_qemu.fileno()}"], stdin=subprocess.PIPE,
+                stdout=subprocess.PIPE, stderr=errors, pass_fds=[disk.of_qemu.fileno()])
+        disk.of_qemu.close()
         assert self.process.stdin and self.process.stdout
         self.to_guest, self.pipe = self.process.stdin, self.process.stdout.fileno()
-        fcntl.fcntl(self.pipe, fcntl.F_SETPIPE_SZ, PIPE_SIZE)
+        fcntl.fcntl(self.pipe, SET_PIPE_SIZE, PIPE_SIZE)
         os.set_blocking(self.pipe, False)
         self.selector.register(self.pipe, selectors.EVENT_READ)
 
@@ -70,21 +74,16 @@ class Machine:
     def send(self, text: str) -> None:
         """Sends a text to the guest, unless its power is cut."""
         if text and not self.is_cut:
-            try:
+            with contextlib.suppress(OSError):  # if the guest has ended, `turn` reports it
                 self.to_guest.write(text.encode())
                 self.to_guest.flush()
-            except OSError:
-                pass  # the guest has ended, which `turn` reports
 
     def turn(self, seconds: float) -> bool:
         """Waits up to so many seconds for something to happen. The guest's lines are taken before
         the requests to its disk. Returns False if qemu has ended on its own."""
         ready = [key.fileobj for key, _ in self.selector.select(max(seconds, 0))]
         is_alive = self.hear()
-        if self.listener in ready:
-            self.selector.register(self.disk.accept(), selectors.EVENT_READ)
-            self.selector.unregister(self.listener)
-        elif self.disk.connection in ready and not self.disk.serve():
+        if self.disk.connection in ready and not self.disk.serve():
             self.selector.unregister(self.disk.connection)
         return is_alive
 
@@ -97,11 +96,8 @@ class Machine:
         os.set_blocking(self.pipe, True)
         self.hear()
         for stream in (self.process.stdin, self.process.stdout):
-            try:
+            with contextlib.suppress(OSError):
                 stream.close()
-            except OSError:
-                pass
-        self.disk.hang_up()
         printed = b""
         for name in ("console", "qemu"):
             with open(f"{self.room}/{name}", "rb") as file:

@@ -6,7 +6,8 @@ import random
 import time
 from typing import NamedTuple, Optional
 
-LONGEST_WORK = 8.0  # seconds after the first command of a boot; a cut comes then at the latest
+# The cut comes so many seconds after the first such line of a boot, at the latest.
+LONGEST = {"@begins": 300.0, "begun": 8.0}
 
 
 class Moment(NamedTuple):
@@ -17,6 +18,7 @@ class Moment(NamedTuple):
     number: int  # which such line of this boot it is, from 1
     requests: int = 0  # writes and flushes of the disk after the line
     seconds: float = 0.0
+    after_fault: bool = False  # lines count once the disk has failed a request
 
 
 def drawn(draws: random.Random, is_logged: bool) -> Moment:
@@ -48,6 +50,14 @@ def again(draws: random.Random) -> Moment:
                          Moment("a round again", "@begins", 1, draws.randint(1, 30))))
 
 
+def of_control(draws: random.Random, after_fault: bool) -> Moment:
+    """Draws a moment at which a mistake should show: as a line was performed, or some time."""
+    if after_fault:
+        return Moment("a fault", "performed", 1, after_fault=True)
+    return draws.choice((Moment("a line", "performed", draws.randint(1, 8)),
+                         Moment("some time", "begun", 1, seconds=draws.uniform(0.1, 3))))
+
+
 class Watch:
     """Waits for the moment of one boot."""
 
@@ -56,14 +66,16 @@ class Watch:
         self.deadline: Optional[float] = None
         self.latest: Optional[float] = None
 
-    def hear(self, line: str) -> None:
-        """Takes a line of the guest."""
+    def hear(self, line: str, has_failed: bool = False) -> None:
+        """Takes a line of the guest, and whether the disk has failed a request."""
         word = line.split(" ", 1)[0]
-        if word == "begun" and self.latest is None:
-            self.latest = time.monotonic() + LONGEST_WORK
+        if word in LONGEST:
+            latest = time.monotonic() + LONGEST[word]
+            self.latest = latest if self.latest is None else min(self.latest, latest)
         if word == "@forgotten":  # nothing more comes
             self.deadline = time.monotonic()
-        if word == self.moment.word and self.left:
+        counts = has_failed or not self.moment.after_fault
+        if word == self.moment.word and self.left and counts:
             self.left -= 1
             if not self.left:
                 self.arrive()

@@ -7,6 +7,7 @@ book at that moment. Begin with `look_at`.
 
 from __future__ import annotations
 
+import json
 import os
 import pickle
 import random
@@ -16,7 +17,7 @@ import sys
 import tempfile
 import time
 from collections import Counter
-from typing import Dict, Iterator, List, NamedTuple, Optional, Set, Union
+from typing import Dict, Iterator, List, NamedTuple, Optional, Set, Tuple
 
 from bank import Bank
 from disk import HOWS, SECTOR, Disk, Entry, Piece, copy_sparse, left_of, mapped, put_all
@@ -261,21 +262,21 @@ class ByKernel:
         return Found([f"{it}: {state.name}" for it in wrongs], [])
 
 
-Looker = Union[ByTools, ByKernel]
-
-
-def look_at(rooms: List[str], fs: str, looker: Looker, disks: str, draws: random.Random,
-            count: int) -> List[str]:
-    """Looks at `count` states of each of these runs. Returns the breaches. The looker counts."""
-    breaches: List[str] = []
-    for room in rooms:
-        log = Log(room, fs, disks)
-        for state in log.states(draws, count):
-            found = looker.look(state)
-            looker.counts.update({"states": 1, "with unflushed pieces": bool(state.stay),
-                                  "refused by the file system": len(found.refusals)})
-            breaches += found.breaches
-            for it in [*found.breaches[:3], *found.refusals[:3]]:
-                print(it, flush=True)
-        log.close()
-    return breaches
+def look_at(room: str, disks: str, worker: str, guest: Guest, by_kernel: bool, count: int,
+            seed: str) -> Tuple[List[str], Dict[str, int]]:
+    """Looks at so many states of a run. Returns the breaches, and what was counted."""
+    with open(f"{room}/setting", encoding="utf-8") as file:
+        fs, options = json.load(file)
+    by_tools = fs == "ext4" and not by_kernel
+    looker = ByTools(disks, worker) if by_tools else ByKernel(disks, guest, fs, options)
+    log, breaches = Log(room, fs, disks), list[str]()
+    for state in log.states(random.Random(f"{seed} {log.name}"), count):
+        found = looker.look(state)
+        looker.counts.update({f"{fs} states": 1, "with unflushed pieces": bool(state.stay),
+                              "refused by the file system": len(found.refusals)})
+        breaches += found.breaches
+        for it in [*found.breaches[:3], *found.refusals[:3]]:
+            print(it, flush=True)
+    log.close()
+    looker.close()
+    return breaches, dict(looker.counts)

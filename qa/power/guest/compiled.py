@@ -8,10 +8,13 @@ The guest's own Python must run this, so that the compiled files fit it.
 
 import importlib
 import os
+import pkgutil
 import py_compile
 import sys
 
-LAZY = "encodings.utf_8 encodings.latin_1 encodings.ascii traceback json.decoder".split()
+# Modules of Python's library that are imported only when they are needed.
+LAZY = ("encodings.utf_8 encodings.latin_1 encodings.ascii traceback json.decoder hashlib subprocess"
+        " tempfile").split()
 MODE = py_compile.PycInvalidationMode.UNCHECKED_HASH
 
 
@@ -23,7 +26,8 @@ def put(source: str, path: str) -> None:
 
 def main(root: str, top: str) -> None:
     sys.path[:0] = [f"{top}/python", f"{top}/tools/worker"]
-    for name in ["amo_jobs.cli", "stand_in", *LAZY]:
+    own = [f"amo_jobs.{it.name}" for it in pkgutil.iter_modules([f"{top}/python/amo_jobs"])]
+    for name in [*own, "stand_in", *LAZY]:
         importlib.import_module(name)
     for module in list(sys.modules.values()):
         path = getattr(module, "__file__", None) or ""
@@ -31,7 +35,7 @@ def main(root: str, top: str) -> None:
             put(path, f"{root}/amo{path[len(top):]}")
         elif path.endswith(".py"):
             put(path, root + path)
-        elif path:
+        elif path and "_hashlib" not in path:  # it is slow to load, and hashlib does without
             print(path)
 
 
