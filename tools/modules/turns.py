@@ -2,8 +2,9 @@
 
 All mutants of a crate were tried when its line was written to tests/mutants_tried.txt. The line has
 a digest of the toolchain's version and of the crate's code, definitions, proofs and mutants, without
-comments. If the digest still fits, a run tries the mutants of a tenth of the crate's functions; the
-number of commits decides which tenth. Else it tries all of them.
+comments. If the digest doesn't fit, a run tries all of them. Else the crate has its turn in every
+third run, and then a run tries the mutants of a quarter of its functions: to begin with a crate
+costs as much as many mutants. The number of commits decides which crates and functions.
 """
 
 from __future__ import annotations
@@ -15,7 +16,9 @@ import subprocess
 
 import edits
 
-PARTS = 10
+# A crate has its turn once in so many runs, and each of its functions once in PARTS.
+EVERY = 3
+PARTS = 12
 TRIED = "tests/mutants_tried.txt"
 # A string or a character stays; a comment goes.
 TOKENS = {
@@ -69,7 +72,7 @@ def write(root: str, crates: list) -> None:
 
 
 def turn(root: str) -> int:
-    """Returns which part of the functions is tried now: the number of commits, modulo PARTS."""
+    """Returns which turn it is: the number of commits, modulo PARTS."""
     call = ["git", "-C", root, "rev-list", "--count", "HEAD"]
     said = subprocess.run(call, capture_output=True, text=True, check=False).stdout.strip()
     return int(said) % PARTS if said.isdigit() else 0
@@ -89,8 +92,14 @@ def keys_of(bodies: list) -> dict[int, str]:
             for at, it in enumerate(bodies)}
 
 
+def drawn(text: str, count: int) -> int:
+    """Returns a number below `count` that hangs on the text alone."""
+    return int(hashlib.sha256(text.encode()).hexdigest(), 16) % count
+
+
 def chosen(crate, bodies: list, part: int) -> list:
     """Returns the bodies of the functions whose turn it is, and those that can't be applied."""
     keys = keys_of(bodies)
-    drawn = lambda key: int(hashlib.sha256(f"{crate.name} {key}".encode()).hexdigest(), 16) % PARTS
-    return [it for at, it in enumerate(bodies) if it.trouble or drawn(keys[at]) == part]
+    first = drawn(f"{crate.name}'s turn", EVERY)
+    turn_of = lambda key: first + EVERY * drawn(f"{crate.name} {key}", PARTS // EVERY)
+    return [it for at, it in enumerate(bodies) if it.trouble or turn_of(keys[at]) == part]
