@@ -7,6 +7,9 @@ second one its date. Empty lines separate the parts, which are
     - TERM: TEXT               an item of a list; lines of more text begin with two blanks
     * TEXT                     a point of a list
     four blanks and a line     an example
+    {run}, {run STATUS..}, {not run: REASON}, {text}
+                               whether tools/pages runs the commands of the example below, or why it
+                               doesn't, or that it has none; nothing of the page
     {synopsis}                 the ways to call the program, as its help prints them
     {commands}                 the commands, with what the help prints on each
     {arguments}                the arguments, with what the help prints on each
@@ -33,6 +36,7 @@ ROOT = os.path.dirname(os.path.dirname(os.path.dirname(os.path.realpath(__file__
 HEAD = re.compile(r"(\w+)\((\d)\): (.*)\ndate: (\d{4}-\d\d-\d\d)\n")
 ITEM = re.compile(r"^- (.+?): (.*(?:\n  .*)*)", re.M)
 POINT = re.compile(r"^\* (.*(?:\n  .*)*)", re.M)
+MARKS = ("run", "not", "text")  # of examples, for tools/pages
 CHAPTERS = {"1": "User commands", "5": "File formats"}
 
 
@@ -182,7 +186,7 @@ class Page:
                     lambda it: it.startswith("#"), file.read().splitlines()))
         elif word == "options":
             return self.add_options(names, following)
-        else:
+        elif word not in MARKS:
             raise Wrong(f"`{part}`: it is no directive; see tools/manual/pages.py")
         return False
 

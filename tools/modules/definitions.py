@@ -112,6 +112,11 @@ class Source:
             self.names |= {name: it for it in self.definitions for name in it.names()}
         self.models = dict(models_in(self)) if self.is_rust else {}
 
+    @functools.cached_property
+    def operators(self) -> list[str]:
+        """Returns the names in sight that are operators."""
+        return [it for it in [*self.names, *self.imports] if not is_word(it)]
+
     def crate(self) -> str:
         return self.path.split("/")[1]
 
@@ -343,6 +348,7 @@ class Tree:
                 if isinstance(it, Definition) and field in it.fields()]
 
 
+@functools.lru_cache(maxsize=None)
 def is_word(name: str) -> bool:
     return re.fullmatch(r"\w[\w'?]*", name) is not None
 
@@ -355,7 +361,6 @@ def is_operator_in(name: str, words: list[str]) -> bool:
 def found_in(tree: Tree, definition: Definition) -> Iterator[tuple[str, Named]]:
     """Yields what the words of a definition name, and then what its operators name."""
     source, words = definition.source, definition.words
-    operators = [it for it in [*source.names, *source.imports] if not is_word(it)]
     for before, word in zip(["", *words], words):
         if word[0] == "." and before in source.modules:
             yield before + word, tree.imported(source.modules[before], word[1:])
@@ -363,7 +368,7 @@ def found_in(tree: Tree, definition: Definition) -> Iterator[tuple[str, Named]]:
             named = tree.named(source, word)
             if named is not None:
                 yield word, named
-    for it in operators:
+    for it in source.operators:
         named = tree.named(source, it) if is_operator_in(it, words) else None
         if named is not None:
             yield it, named

@@ -13,7 +13,7 @@ import crates as listing
 
 ROOT = os.path.dirname(os.path.dirname(os.path.dirname(os.path.realpath(__file__))))
 ARCHIVE = f"{ROOT}/crates/amo_c/out/libamo_c.a"
-# Old names of pages that the programs print; each is one line that leads to the new page.
+# Old names of pages, for one version; each is one line that leads to the new page.
 MOVED = ("JOBS", "MACHINES", "PROCESSES", "STORES", "FORMATS")
 # The pages that each package of the programs has, as patterns of the repository.
 PAGES = (*(f"docs/guide/{it}.md" for it in ("install", "commands", "operating", "watching",

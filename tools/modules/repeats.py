@@ -8,9 +8,10 @@ from __future__ import annotations
 import re
 from typing import Iterator, NamedTuple
 
+import blocks
+
 # Two to three lines of a page have 30 words.
 WORDS = 30
-BLOCK = re.compile(r"^```.*?^```$", re.M | re.S)
 LINK = re.compile(r"\]\([^)\s]*\)")
 
 
@@ -24,7 +25,7 @@ class Repeat(NamedTuple):
 
 def paragraphs(text: str) -> Iterator[list[str]]:
     """Yields the words of each paragraph and list item, without the targets of links."""
-    for part in re.split(r"\n\s*\n|\n(?=\s*(?:[-|]|\d+\.) )", BLOCK.sub("", text)):
+    for part in re.split(r"\n\s*\n|\n(?=\s*(?:[-|]|\d+\.) )", blocks.without(text)):
         if not part.startswith("    ") and not part.lstrip().startswith(("|", "#")):
             yield re.findall(r"[\w']+", LINK.sub("]", part).lower())
 

@@ -4,6 +4,7 @@ letter."""
 
 from __future__ import annotations
 
+import functools
 import os
 import re
 from typing import Iterator, NamedTuple
@@ -13,6 +14,8 @@ ITEM = re.compile(r"(\s*)(?:pub(?:\([^)]*\))? )?(?:ghost )?(?:const )?(?:unsafe 
                   r"(?:extern \"C\" )?(fn|struct|enum|trait|type|const|impl) ?(.*)")
 NAME = re.compile(r"\w+")
 MODEL = re.compile(r"impl(?:<.*>)? Model for (\w+)")
+IMPL = re.compile(r"impl(?:<.*>)? (?!Model )(?:\w+::)*\w+(?:<.*>)? for (\w+)")
+GHOST = re.compile(r"    ghost (?!use )")
 WITH_MEMBERS = ("struct", "enum", "trait")
 MEMBER = re.compile(r"pub (?:ghost )?\w+:|[A-Z]\w*(?:\(|,$|$| \{)|type |ghost \w+:")
 FENCE = "```"
@@ -52,7 +55,9 @@ class Block(NamedTuple):
     code: list[str]
 
 
+@functools.lru_cache(maxsize=None)
 def read(path: str) -> list[str]:
+    """Returns the lines of a file, as they were when this was first asked. Change nothing there."""
     with open(path, encoding="utf-8") as file:
         return file.read().split("\n")
 
@@ -166,8 +171,10 @@ def owner_of(rest: str) -> str:
 
 
 def exported(folder: str) -> tuple[set[str], set[str]]:
-    """Returns the names that the root file of a crate exports, and its public modules."""
-    text = re.sub(r"//.*", "", "\n".join(read(f"{folder}/src/lib.rt")))
+    """Returns the names that the root file of a crate exports, and its public modules. A program
+    exports none."""
+    path = f"{folder}/src/lib.rt"
+    text = re.sub(r"//.*", "", "\n".join(read(path))) if os.path.isfile(path) else ""
     names: set[str] = set()
     for path in re.findall(r"^pub use ([^;]*);", text, re.M):
         last = path.split("{", 1)[1] if "{" in path else path.split("::")[-1]
@@ -175,8 +182,9 @@ def exported(folder: str) -> tuple[set[str], set[str]]:
     return names, set(re.findall(r"^pub mod (\w+);", text, re.M))
 
 
+@functools.lru_cache(maxsize=None)
 def public_items(folder: str, root: str) -> list[Item]:
-    """Returns the items of a crate that its users can name."""
+    """Returns the items of a crate that its users can name. Change nothing there."""
     names, modules = exported(folder)
     found = []
     for path in files_of(folder):
@@ -202,6 +210,31 @@ def models(folder: str, root: str) -> dict[str, Item]:
                         if line.strip() and not comment_of(line) and "ghost use" not in line]
                 found[begun[1]] = Item(os.path.relpath(path, root), at + 1, last + 1, "impl",
                                        begun[1], "", True, [], body, [])
+    return found
+
+
+def ghosts(lines: list[str]) -> list[str]:
+    """Returns the definitions for contracts among the lines of an impl."""
+    found, is_open = [], False
+    for line in lines:
+        if is_open or GHOST.match(line):
+            found.append(line)
+            is_open = not line.endswith("};")
+    return found
+
+
+def impls(folder: str, root: str) -> list[Item]:
+    """Returns each impl of a trait in a crate that gives definitions to contracts, with these. The
+    item has the name of the type."""
+    found = []
+    for path in files_of(folder):
+        lines = read(path)
+        for at, begun in ((at, IMPL.match(line)) for at, line in enumerate(lines)):
+            last = lines.index("}", at) if begun and lines[at].endswith("{") else at
+            given = ghosts(lines[at + 1:last])
+            if begun and given:
+                found.append(Item(os.path.relpath(path, root), at + 1, last + 1, "impl", begun[1],
+                                  "", True, [], [lines[at], *given, "}"], []))
     return found
 
 

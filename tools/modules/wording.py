@@ -41,11 +41,16 @@ class Vocabulary:
     def __init__(self, root: str, crates: list[str]):
         self.tree, self.root = Tree(root), root
         self.items = {it: sources.public_items(f"{root}/crates/{it}", root) for it in crates}
+        self.public = {it: {one.name for one in self.items[it] if not one.owner} for it in crates}
         self.models = {it: sources.models(f"{root}/crates/{it}", root) for it in crates}
+        self.impls = {it: [one for one in sources.impls(f"{root}/crates/{it}", root)
+                           if self.is_public(it, one.name)] for it in crates}
+        self.exported = {it: self.exports(it) for it in crates}
         self.rows = dict(ROW.findall("\n".join(sources.read(f"{root}/crates.txt"))))
         self.shown: dict[str, list[Definition]] = {}
         self.programs = {it: self.comments(it) for it in crates}
-        due = {it: [*self.contracts(it), *self.views(it), *self.imported(it)] for it in crates}
+        self.stated = {it: self.contracts(it) for it in crates}
+        due = {it: [*self.stated[it], *self.views(it), *self.imported(it)] for it in crates}
         for crate in reversed(crates):
             reached = self.reached(crate, due[crate])
             for it in self.named(reached):
@@ -59,9 +64,11 @@ class Vocabulary:
                 for it in self.items[crate]]
 
     def views(self, crate: str) -> list[Definition]:
-        """Returns what the public types of a crate say of the value as which contracts see them."""
+        """Returns what the public types of a crate say of the value as which contracts see them,
+        and what their traits give to contracts."""
+        those = [it for it in self.models[crate].values() if self.is_public(crate, it.name)]
         return [self.text(it.file, it.name, it.line, it.text)
-                for it in self.models[crate].values() if self.is_public(crate, it.name)]
+                for it in [*those, *self.impls[crate]]]
 
     def comments(self, crate: str) -> str:
         """Returns the comments of a crate's page, with the programs in them."""
@@ -80,7 +87,7 @@ class Vocabulary:
         return Definition(source, "contract", name, line, lines, [])
 
     def is_public(self, crate: str, name: str) -> bool:
-        return any(it.name == name and not it.owner for it in self.items[crate])
+        return name in self.public[crate]
 
     def is_shown(self, crate: str, it: Definition) -> bool:
         """Returns true for what stands in the section on definitions: all but the public items."""
@@ -110,7 +117,7 @@ class Vocabulary:
     def imports(self, crate: str) -> list[str]:
         """Returns the lines that bring the words of a crate's contracts into a caller's file."""
         found: dict[str, set[str]] = {}
-        for text in self.contracts(crate):
+        for text in self.stated[crate]:
             for word, _ in self.tree.found_in(text):
                 it = text.source.imports.get(word)
                 if it:
@@ -126,10 +133,11 @@ class Vocabulary:
         return names.index(crate) if crate in names else -1, module
 
     def needed(self, crate: str) -> list[str]:
-        """Returns the crates that a caller lists: this one, those of the repository whose types or
-        words its public items or the programs in its comments name, and those of the toolchain
-        whose words the items name."""
-        texts = self.contracts(crate)
+        """Returns the crates that a caller lists: this one, those of the repository whose types,
+        traits or words its public items or the programs in its comments name, and those of the
+        toolchain whose words the items name."""
+        texts = [*self.stated[crate], *(self.text(it.file, it.name, it.line, it.text[:1])
+                                        for it in self.impls[crate])]
         used = {it for it in USED.findall(self.programs[crate]) if self.tree.has_crate(it)}
         own = {it.source.crate() for it in [*self.named(texts), *self.imported(crate)]}
         own = (own | used) - {crate}
@@ -156,7 +164,7 @@ class Vocabulary:
         shared: dict[tuple[str, str], list[str]] = {}
         needed = set(self.needed(crate))
         for other in self.items:
-            for name, home in self.exports(other).items():
+            for name, home in self.exported[other].items():
                 if crate in (other, home) or {other, home} <= needed:
                     shared.setdefault((other, home), []).append(name)
         return [f"- {', '.join(f'`{it}`' for it in names)}: of {self.page_link(home)}, and exported"
@@ -182,7 +190,7 @@ class Vocabulary:
         """Returns the names of other crates that these definitions name, each with a link."""
         found = sorted({(it.name, it.source.crate(), self.link(it)) for it in self.named(those)
                         if it.source.crate() != crate})
-        twins = self.exports(crate)
+        twins = self.exported[crate]
         return ", ".join(f"[`{name}`]({target}) of `{home}`"
                          + " (exported here too)" * (twins.get(name) == home)
                          for name, home, target in found)
