@@ -609,25 +609,28 @@ def try_killed_in_turn(bench):
 def try_disk_full(bench):
     """a full disk: nothing is performed without an intent, an end that was seen waits for room, and
     then all goes on"""
+    # A run has 100 KiB before its first line, and the ballast 16. The journal needs more room in
+    # the middle of the list. A code of three digits moves that place by two bytes.
     told = []
-    for long_codes in (0, 17):
+    for kibibytes, long_codes in ((104, 0), (116, 0), (116, 17)):
         scene = bench.scene(["hundred"] * long_codes + ["other"] * (120 - long_codes), 1, ["--halt", "0"])
         disk = f"{scene.room}/disk"
         os.mkdir(disk)
-        if subprocess.run(["mount", "-t", "tmpfs", "-o", "size=104k", "tmpfs", disk],
+        if subprocess.run(["mount", "-t", "tmpfs", "-o", f"size={kibibytes}k", "tmpfs", disk],
                           stderr=subprocess.DEVNULL).returncode:
             bench.skipped.append("a full disk, since no tmpfs can be mounted")
             return None
         try:
-            told.append(fill(scene, disk))
+            told.append(fill(scene, disk, kibibytes > 104))
         finally:
             bench.close()
             subprocess.run(["umount", "-l", disk])
     return ", ".join(told)
 
 
-def fill(scene, disk):
-    """Returns a run on this small disk, which is full until it has stopped or waits."""
+def fill(scene, disk, is_begun):
+    """Returns a run on this small disk, which is full until it has stopped or waits. The disk has
+    room for the first lines of the list, or for none."""
     scene.run, scene.file_system = f"{disk}/run", "tmpfs"
     scene.options += ["--results", f"{scene.room}/results"]
     with open(f"{disk}/ballast", "wb") as file:
@@ -635,11 +638,11 @@ def fill(scene, disk):
     crew = scene.start()
     until(lambda: crew.poll() is not None or "goes on trying" in scene.tale(), "the disk is full")
     waits, count = crew.poll() is None, len(os.listdir(scene.effects))
+    want((0 < count < 120) == is_begun == waits, f"the disk is full after {count} of 120: {scene.tale()[-500:]}")
     if not waits:
         scene.ends(crew, WRITE)
-        want(len(scene.look().intents) == count, "something was performed without an intent")
         scene.ends(scene.start(), WRITE)
-        want(len(os.listdir(scene.effects)) == count, "something was performed while the disk was full")
+        want(not os.listdir(scene.effects), "something was performed while the disk was full")
     os.unlink(f"{disk}/ballast")
     if waits:
         want(crew.wait(240) in (DONE, FAILED), f"status {crew.poll()}: {scene.tale()[-500:]}")
