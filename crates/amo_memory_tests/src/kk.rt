@@ -1,0 +1,3 @@
+//! Tests of `amo_kk`.
+mod locals;
+mod memory;

@@ -1,0 +1,4 @@
+//! Tests of `amo_world`.
+mod memory;
+mod sizes;
+mod worlds;

@@ -1,7 +1,0 @@
-//! Tests of the memory that `amo_sets` requests, or promises not to request.
-//!
-//! The other tests of that crate stand in `tests/amo_algorithm_tests`.
-#![tactic(auto)]
-
-#[cfg(test)]
-mod tests;
