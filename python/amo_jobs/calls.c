@@ -86,17 +86,20 @@ static void put_name(const struct start *it, int kind, long serial, char *name) 
   snprintf(name, PATH_MAX, "%s%ld", it->starts[kind], serial);
 }
 
-static void give_up(int *file) {
-  close(*file);
-  *file = -1;
+static void give_up(int *file) { close(*file), *file = -1; }
+
+static int is_fresh(int file) { /* it is empty, and has one name alone */
+  struct stat found;
+  return fstat(file, &found) == 0 && found.st_size == 0 && found.st_nlink == 1;
 }
 
-/* Has a file ready. One that an earlier command left serves this one, under its new name. */
+/* Has a file ready. One that an earlier command left serves this one, if nothing has its name. */
 static int prepare(struct start *it, int kind, const char *name) {
   char former[PATH_MAX];
   int *file = &it->files[kind];
   put_name(it, kind, it->former[kind], former);
-  if (*file >= 0 && (rename(former, name) < 0 || (kind == LOCK && same(name, *file) < 0))) {
+  if (*file >= 0 && (renameat2(AT_FDCWD, former, AT_FDCWD, name, RENAME_NOREPLACE) < 0 ||
+                     (kind == LOCK && same(name, *file) < 0))) {
     unlink(former);
     give_up(file);
   }
@@ -119,24 +122,23 @@ static int make_files(struct start *it) {
   return found;
 }
 
-/* Keeps the outputs that are empty for the next command, if theirs `is_over`; closes the others. */
+/* Keeps the outputs that are fresh for the next command, if theirs `is_over`; closes the others. */
 void amo_keep(struct start *it, int is_over) {
-  struct stat found;
   for (int kind = LOCK + 1; kind < FILES; kind++)
-    if (!is_over || fstat(it->files[kind], &found) < 0 || found.st_size > 0)
+    if (!is_over || !is_fresh(it->files[kind]))
       give_up(&it->files[kind]);
 }
 
-/* Returns 1 if nobody has the lock of the attempt `serial`, since a handle that is opened anew gets
-   it. Its name is free then: the file serves the next command, with that handle, or is removed. If
-   the caller has the runner's lock, a missing file means the same. */
+/* Returns 1 if nobody has the lock of the attempt `serial`: a handle that is opened anew gets it,
+   or its file is missing (the caller has the runner's lock). The name is free then: a fresh file
+   serves the next command, with that handle, and one in which a command has written is removed. */
 int amo_free(struct start *it) {
   char name[PATH_MAX], spare[PATH_MAX];
   put_name(it, LOCK, it->serial, name), put_name(it, LOCK, SPARE, spare);
   int lock = amo_lock(name, 0);
   if (lock < 0)
     return lock == -ENOENT;
-  if (it->files[LOCK] < 0 && rename(name, spare) == 0)
+  if (is_fresh(lock) && it->files[LOCK] < 0 && rename(name, spare) == 0)
     it->files[LOCK] = lock, it->former[LOCK] = SPARE;
   else
     unlink(name), close(lock);

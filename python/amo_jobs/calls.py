@@ -100,14 +100,22 @@ def words_of(number: int) -> List[str]:
     return []
 
 
-def files_of(number: int) -> List[str]:
-    """Returns the paths of a process's open files, as far as the system shows them."""
+def files_of(number: int, is_locked: bool = False) -> List[str]:
+    """Returns the paths of a process's open files, as far as the system shows them. If `is_locked`,
+    returns those whose lock it holds, and not those that it has opened anew."""
     found: List[str] = []
     with suppress(OSError):
         for file in os.listdir(f"/proc/{number}/fd"):
             with suppress(FileNotFoundError):
-                found.append(os.readlink(f"/proc/{number}/fd/{file}"))
+                if not is_locked or has_lock(f"/proc/{number}/fdinfo/{file}"):
+                    found.append(os.readlink(f"/proc/{number}/fd/{file}"))
     return found
+
+
+def has_lock(path: str) -> bool:
+    """Returns whether the system shows a lock in this description of a file's handle."""
+    with open(path, "rb") as file:
+        return b"\nlock:" in file.read()
 
 
 def send(process: Process, number: int) -> None:

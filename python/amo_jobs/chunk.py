@@ -182,7 +182,8 @@ class Chunk:
         # (the crew was killed, or one lives whose amo_share was killed)
         while status in (Status.LATER, Status.MEMORY) or status < 0:
             seconds, status = pause(self.sharing, seconds), self.run_crew()
-        is_left = status == Status.DOUBTFUL and self.program.status(self.folder)["open"]
+        is_left = (status in (Status.FAILED, Status.DOUBTFUL)
+                   and self.program.status(self.folder)["open"])
         if is_left or status not in (Status.DONE, Status.FAILED, Status.DOUBTFUL):
             raise End(Status.LEFT if is_left else status,
                       f"{self.title}: its crew has ended, and lines are open; do what the crew's"

@@ -63,12 +63,13 @@ RUNS = ("crew", "work")
 def work(settings: Settings, program: Program) -> int:
     """Performs the commands crew and work. The door is asked before any lock is taken. For a runner
     of a crew its supervisor has done all that."""
+    own = version()  # before other modules: an upgrade may replace the files at any moment
     from amo_jobs.calls import keep_from_commands
     from amo_jobs.library import library
     keep_from_commands()
     library()  # so that nothing is begun if it can't be built
     if settings.caller:
-        return runner(settings, program)
+        return runner(settings, program, own)
     from amo_jobs import crew
     from amo_jobs.run_folder import check_list, enter, joined, note_command
     check_list(settings)
@@ -76,22 +77,24 @@ def work(settings: Settings, program: Program) -> int:
            else joined(settings, program))
     settings.id = run
     program.more += ["--id", run]
-    note_command(settings, version())
+    note_command(settings, own)
     if settings.results != settings.run:  # since the door alone makes the run's folder
         os.makedirs(settings.results, 0o700, exist_ok=True)
     if settings.what == "work":
         return crew.work(settings, program)
     return watching.told(settings, program,
-                         lambda: crew.Crew(settings, program, version()).run())
+                         lambda: crew.Crew(settings, program, own).run())
 
 
-def runner(settings: Settings, program: Program) -> int:
-    """Runs one worker of a crew, if its supervisor has the version of this program."""
+def runner(settings: Settings, program: Program, own: str) -> int:
+    """Runs one worker of a crew, if its supervisor has the version that this program had before it
+    imported its modules, and has after that."""
     from amo_jobs.runner import supervised
-    if settings.caller != version():
-        raise End(Status.LATER, f"worker {settings.worker}: amo was upgraded from"
-                                f" {visible(settings.caller)} to {version()} while its crew worked;"
-                                " start the crew again")
+    for found in (own, version()):
+        if settings.caller != found:
+            raise End(Status.LATER, f"worker {settings.worker}: amo was upgraded from"
+                                    f" {visible(settings.caller)} to {found} while its crew worked;"
+                                    " start the crew again")
     program.more += ["--id", settings.id]
     return supervised(settings, program)
 
@@ -303,6 +306,20 @@ def refuse_command(settings: Settings) -> None:
                                     " would read the job's text as commands; make {} an argument of"
                                     " its own, as in sh -c 'send --to \"$1\"' sh {}, or use"
                                     " \"$AMO_JOB\" there")
+    refuse_own_name(settings)
+
+
+def refuse_own_name(settings: Settings) -> None:
+    """Refuses --may-leave with the name of the command's own program. A command whose runner was
+    killed would count for nothing then, and its line would be listed while the command runs."""
+    program = settings.command[0]
+    folders = os.get_exec_path() if "/" not in program else [""]
+    paths = [path for it in folders if os.path.exists(path := os.path.join(it, program))]
+    names = {os.path.basename(it) for it in (program, os.path.realpath((paths or [program])[0]))}
+    for name in sorted(names & set(settings.may_leave)):
+        raise End(Status.WORDS, f"--may-leave `{visible(name)}`: it is the command's own program,"
+                                " and a command must not be left out; name only programs that the"
+                                " command starts, and that do no work of a job")
 
 
 def settings_of(words: List[str]) -> Settings:
@@ -325,6 +342,7 @@ def settings_of(words: List[str]) -> Settings:
 def main(words: List[str]) -> int:
     """Does what the words ask for, prints the last message, and returns the exit status."""
     signal.signal(signal.SIGCHLD, signal.SIG_DFL)  # if it is ignored, no end of a child is reported
+    signal.pthread_sigmask(signal.SIG_UNBLOCK, [signal.SIGCHLD])  # and none that the caller blocks
     while os.open(os.devnull, os.O_RDWR) < 3:  # no file of a run gets a closed stream's number
         pass
     code, text = end_of(lambda: called(words), f"how all lines stand: {sys.argv[0]} status")

@@ -97,16 +97,18 @@ class Command:
             again = None if self.locks else locked(self.path, True)
             self.locks += [] if again is None else [again]
         except OSError:
+            self.release_outputs(False)
             return Rest.UNSEEN
-        is_seen = not self.locks and all(self.path in files_of(it.number) for it in left)
+        is_seen = not self.locks and all(self.path in files_of(it.number, True)
+                                         for it in left)
         return Rest.SEEN if is_seen else Rest.UNSEEN
 
     def release_outputs(self, is_over: bool) -> None:
-        """Leaves the outputs to this attempt, or to the next one. Removes empty ones at the end."""
+        """Leaves the outputs to this attempt, of which something was left: it may have them open
+        still, also if it counts for nothing. Removes empty ones at the end."""
         if self.outputs is None:
-            self.outputs = [] if is_over else [self.starter.path(it, self.serial)
-                                               for it in OUTPUTS.values()]
-            self.starter.keep(is_over)
+            self.outputs = [self.starter.path(it, self.serial) for it in OUTPUTS.values()]
+            self.starter.keep(False)
         for path in self.outputs if is_over else ():
             with suppress(OSError):
                 if os.path.getsize(path) == 0:

@@ -20,7 +20,7 @@ from amo_jobs.desk import Desk, event_of, LOCK, ORDERS, REPORTS
 from amo_jobs.locks import close_all, locked, locked_soon, PATIENCE
 from amo_jobs.messages import End as Refusal, reason, Screen, visible
 from amo_jobs.pipes import Child
-from amo_jobs.processes import described, Family, has_open, Signals
+from amo_jobs.processes import described, Family, Signals
 from amo_jobs.progress import Progress
 from amo_jobs.runner import Runner
 from amo_jobs.runner_state import BY_CREW
@@ -204,7 +204,9 @@ class Crew:
             left = self.orphans_below()
         except OSError as error:
             return Orphans(True, f"processes that can't be seen ({reason(error)})")
-        unseen = [it for it in left if not has_open(it, (f"{self.folder}/command.",))]
+        start = f"{self.folder}/command."
+        unseen = [it for it in left if not any(path.startswith(start)
+                                               for path in calls.files_of(it.number, True))]
         return Orphans(bool(left), described(unseen))
 
     def orphans_below(self) -> List[calls.Process]:

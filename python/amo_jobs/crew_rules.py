@@ -245,7 +245,8 @@ def runner_ended(state: State, it: RunnerEnded) -> Actions:
     number.phase, number.status, state.has_orphans = Phase.DEAD, None, True
     state.unseen = f"processes of worker {it.worker}"  # until that is looked at
     if it.code >= 0:
-        number.status, number.is_refused = it.code or Status.BUILD, True
+        is_own = it.code > Status.DOUBTFUL  # Python ends with 1 or 2 if it finds no program
+        number.status, number.is_refused = it.code if is_own else Status.BUILD, True
         return stop(state, f"worker {it.worker}: its runner has failed (status {it.code})")
     name = signal.Signals(-it.code).name
     return [Say(f"worker {it.worker}: its runner was ended by {name}"

@@ -186,6 +186,48 @@ class Spawned(Case):
         self.assertIs(found.rest(()), Rest.UNSEEN)
         self.assertEqual(found.locks, [])
 
+    def test_one_that_has_opened_the_lock_anew_holds_none(self):
+        script = ("import subprocess\n"
+                  "subprocess.Popen(['sleep', '60'], close_fds=False)\n")
+        anew = "subprocess.Popen(['sleep', '60'], stdin=open('/dev/fd/50'))\n"
+        for more, rest in (("", Rest.SEEN), (anew, Rest.UNSEEN)):
+            found = self.start(self.commands(sys.executable, "-c", script + more))
+            self.end(found)
+            self.assertIs(found.rest(()), rest)
+            self.assertEqual(found.locks, [])
+
+    def test_a_lock_in_which_a_command_has_written_serves_no_other(self):
+        commands = self.commands("sh", "-c", "cat; echo secret > /dev/stdin")
+        for serial in (1, 2):
+            found = self.start(commands)
+            self.end(found)
+            self.assertEqual(self.text(f"out.3.{serial}"), "")
+            self.assertIs(found.rest(()), Rest.NOTHING)
+
+    def test_a_file_with_the_name_of_a_lock_is_not_replaced(self):
+        commands = self.commands("true")
+        found = self.start(commands)
+        self.end(found)
+        self.assertIs(found.rest(()), Rest.NOTHING)
+        lock = locked(self.written("command.3.2"), True)
+        with self.assertRaisesRegex(NotStarted, "it is locked by another process"):
+            self.start(commands)
+        os.close(lock)
+
+    def test_outputs_that_something_may_write_serve_no_other_command(self):
+        sleep = frozenset({os.path.basename(os.path.realpath("/bin/sleep"))})
+        for may_leave, error, rest in ((sleep, None, Rest.NOTHING),
+                                       (frozenset(), OSError(12, "no memory"), Rest.UNSEEN)):
+            self.family.may_leave = may_leave
+            found, _ = self.leave_unseen()
+            former = os.stat(f"{self.run}/out.3.{self.serial}")
+            with mock.patch.object(self.family, "rest", return_value=[], side_effect=error):
+                self.assertIs(found.rest(()), rest)
+            self.serial += 1
+            Command(found.starter, self.family, self.serial, 7).start(b"pay", ())
+            following = os.stat(f"{self.run}/out.3.{self.serial}")
+            self.assertFalse(os.path.samestat(former, following))
+
     def test_a_named_program_may_be_left(self):
         self.family.may_leave = frozenset({os.path.basename(os.path.realpath("/bin/sleep"))})
         found, _ = self.leave_unseen()

@@ -253,6 +253,14 @@ class Steps(unittest.TestCase):
         self.take(Reported(2, Report(reports.OVER, code=69)))
         self.assertEqual(self.take(RunnerEnded(2, 69))[-1], End(125))
 
+    def test_a_status_of_python_is_not_one_of_a_crew(self):
+        for code in (1, 2):  # as if Python had found no program
+            self.setUp()
+            self.take(RunnerEnded(1, code))
+            self.take(Orphans(False, ""))
+            self.take(Reported(2, Report(reports.OVER, code=0)))
+            self.assertEqual(self.take(RunnerEnded(2, 0))[-1], End(125))
+
     def test_what_is_left_of_a_runner_is_waited_for_at_last(self):
         self.take(RunnerEnded(1, -9))
         self.take(Orphans(True, "process 9 (x)"))

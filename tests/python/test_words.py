@@ -3,6 +3,7 @@
 import argparse
 import contextlib
 import io
+import os
 import shlex
 import unittest
 from unittest import mock
@@ -78,6 +79,21 @@ class Commands(unittest.TestCase):
     def test_a_command_is_needed(self):
         self.assertTrue(message(cli.refuse_command, Settings("work")).startswith(
             "`work`: the command is missing; give it after --"))
+
+
+class OwnName(unittest.TestCase):
+    def refused(self, program, *names):
+        return message(cli.refuse_own_name, Settings("crew", command=[program], may_leave=names))
+
+    def test_the_commands_own_program_may_not_be_left(self):
+        real = os.path.basename(os.path.realpath("/bin/sh"))
+        for program, name in (("./ssh", "ssh"), ("ssh", "ssh"), ("sh", real), ("/bin/sh", real)):
+            self.assertIn(f"--may-leave `{name}`: it is the command's own program",
+                          self.refused(program, "gpg-agent", name))
+
+    def test_another_program_may_be_left(self):
+        self.assertIsNone(self.refused("./pay", "gpg-agent", "ssh"))
+        self.assertIsNone(self.refused("ssh"))
 
 
 class Words(unittest.TestCase):

@@ -403,6 +403,10 @@ int fsync(int file) {
     TRY(NAME, kind, DO);                \
   } while (0)
 
+int renameat2(int old_folder, const char *old, int new_folder, const char *new, unsigned flags) {
+  ON_PATH("rename", old, syscall(SYS_renameat2, old_folder, old, new_folder, new, flags));
+}
+
 int rename(const char *old, const char *new) {
   ON_PATH("rename", old, syscall(SYS_renameat2, AT_FDCWD, old, AT_FDCWD, new, 0));
 }
