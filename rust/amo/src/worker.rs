@@ -234,7 +234,8 @@ impl<'a, R: Registers> Worker<'a, R> {
         }
     }
 
-    /// Performs jobs until the worker has ended. `doubt` gets each job in doubt.
+    /// Performs jobs until the worker has ended. `doubt` gets each job in doubt. If `perform` or
+    /// `doubt` panics, the next step reports that job as in doubt.
     ///
     /// # Errors
     ///
@@ -257,14 +258,18 @@ impl<'a, R: Registers> Worker<'a, R> {
         mut doubt: impl FnMut(Doubt),
     ) -> Result<(), Fault> {
         loop {
-            match self.step()? {
+            let found = match self.step()? {
                 Step::Perform(job) => {
                     perform(job.number());
                     job.done()?;
+                    continue;
                 }
-                Step::Doubt(found) => doubt(found),
+                Step::Doubt(found) => found,
                 Step::Over => return Ok(()),
-            }
+            };
+            self.has_reported = false; // if `doubt` panics, the next step reports the job again
+            doubt(found);
+            self.has_reported = true;
         }
     }
 
@@ -311,26 +316,27 @@ impl<'a, R: Registers> Worker<'a, R> {
         }
     }
 
-    /// Makes the accesses of an item. If one fails, the worker begins again at its next step.
+    /// Makes the accesses of an item. If one fails or panics, the worker begins again at its next
+    /// step, since nobody knows whether the access was made.
     fn carry_out(&mut self, item: &Item) -> Result<(), Fault> {
-        let made = self.accesses(item);
-        if made.is_err() {
-            self.heard.clear();
-            self.has_reported = false;
-        }
-        made
+        let (mut heard, has_reported) = (mem::take(&mut self.heard), self.has_reported);
+        self.has_reported = false;
+        self.accesses(item, &mut heard)?;
+        self.heard = heard;
+        self.has_reported = has_reported;
+        Ok(())
     }
 
-    fn accesses(&mut self, item: &Item) -> Result<(), Fault> {
+    fn accesses(&self, item: &Item, heard: &mut Vec<u64>) -> Result<(), Fault> {
         let registers = &self.crew.registers;
         if item.access == amo_sys::STORE.into() {
             registers.store(item.word as usize, item.value)?;
-            self.heard.push(0);
+            heard.push(0);
             return Ok(());
         }
         for place in item.word..=item.word.max(item.value) {
             let value = registers.load(place as usize)?;
-            self.heard.push(value);
+            heard.push(value);
             if value == 0 {
                 break;
             }

@@ -1,8 +1,10 @@
-//! Workers that die at each of their accesses in turn. Two mistakes must show.
+//! Workers that die at each of their accesses in turn. Two mistakes must show. Other workers go on
+//! after a panic in each of their accesses.
 
 use amo::{Crew, Fault, Registers, Step};
 use std::cell::Cell;
 use std::io;
+use std::panic::{catch_unwind, AssertUnwindSafe};
 use std::sync::atomic::AtomicU64;
 
 const WORKERS: u32 = 2;
@@ -171,4 +173,82 @@ fn a_next_job_that_is_claimed_as_one_is_recorded() {
     assert!(matches!(worker.step(), Ok(Step::Perform(job)) if job.number() == 2));
     drop(worker);
     assert_eq!(crew.standing().expect("no fault").in_hand, [2]);
+}
+
+/// Registers of which one access panics, before it is made or after that.
+struct Panicking {
+    words: Vec<AtomicU64>,
+    left: Cell<u32>, // the accesses before that one
+    is_made: bool,
+}
+
+impl Panicking {
+    /// Counts an access, and returns true if it is the one that panics.
+    fn panics(&self) -> bool {
+        let left = self.left.get();
+        self.left.set(left.wrapping_sub(1)); // beyond 0 there is no other one
+        left == 0
+    }
+}
+
+impl Registers for Panicking {
+    fn load(&self, place: usize) -> io::Result<u64> {
+        assert!(!self.panics(), "a load");
+        self.words.load(place)
+    }
+
+    fn store(&self, place: usize, value: u64) -> io::Result<()> {
+        let panics = self.panics();
+        if !panics || self.is_made {
+            self.words.store(place, value)?;
+        }
+        assert!(!panics, "a store");
+        Ok(())
+    }
+}
+
+/// Has one worker go on after a panic in an access. Returns the performed jobs, those in doubt, and
+/// true if there was such an access.
+fn run_with_a_panic(access: u32, is_made: bool) -> (Vec<u32>, Vec<u32>, bool) {
+    let count = amo::words(1, JOBS).expect("the numbers keep the limits");
+    let registers = Panicking {
+        words: (0..count).map(|_| AtomicU64::new(0)).collect(),
+        left: Cell::new(access),
+        is_made,
+    };
+    let crew = Crew::new(registers, 1, JOBS).expect("the numbers keep the limits");
+    let mut worker = crew.worker(1).expect("nobody has this number");
+    let (mut performed, mut doubts) = (vec![], vec![]);
+    let mut work = || {
+        let ran = AssertUnwindSafe(|| {
+            worker.run(|job| performed.push(job), |doubt| doubts.push(doubt.job()))
+        });
+        catch_unwind(ran).map(|ended| ended.expect("no fault"))
+    };
+    let has_panicked = work().is_err();
+    if has_panicked {
+        work().expect("one access panics");
+    }
+    (performed, doubts, has_panicked)
+}
+
+#[test]
+fn a_panic_after_which_a_job_is_performed_twice() {
+    for is_made in [false, true] {
+        for access in 0.. {
+            let (mut performed, doubts, has_panicked) = run_with_a_panic(access, is_made);
+            performed.sort_unstable();
+            assert!(
+                !has_twice(&performed),
+                "access {access}, {is_made}: {performed:?}"
+            );
+            // one worker alone performs each job, or finds it in doubt
+            assert!((1..=JOBS).all(|job| performed.contains(&job) || doubts.contains(&job)));
+            if !has_panicked {
+                assert_eq!((performed, doubts), (vec![1, 2, 3], vec![]));
+                assert_eq!(access, 3 + 3 * JOBS); // 3 loads at the start, and 3 stores for each job
+                break;
+            }
+        }
+    }
 }

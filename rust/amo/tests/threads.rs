@@ -98,6 +98,27 @@ fn a_panic_that_leaves_no_doubt() {
 }
 
 #[test]
+fn a_panic_that_loses_a_doubt() {
+    let crew = crew_of(1, 3);
+    let mut worker = crew.worker(1).expect("nobody has this number");
+    match worker.step().expect("no fault") {
+        Step::Perform(job) => drop(job),
+        other => panic!("{other:?}"),
+    }
+    for _ in 0..2 {
+        let ended = std::panic::catch_unwind(std::panic::AssertUnwindSafe(|| {
+            let _ = worker.run(|job| panic!("job {job}"), |_| panic!("in the report"));
+        }));
+        assert!(ended.is_err());
+    }
+    let (mut performed, mut doubts) = (vec![], vec![]);
+    worker
+        .run(|job| performed.push(job), |doubt| doubts.push(doubt.job()))
+        .expect("no fault");
+    assert_eq!((performed, doubts), (vec![2, 3], vec![1]));
+}
+
+#[test]
 fn a_forgotten_job_that_is_given_out_again() {
     let crew = crew_of(1, 3);
     let mut worker = crew.worker(1).expect("nobody has this number");
