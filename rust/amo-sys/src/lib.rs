@@ -9,7 +9,7 @@ mod lock;
 mod map;
 
 pub use lock::lock;
-pub use map::Map;
+pub use map::{take_room, Map};
 
 use std::mem;
 

@@ -10,6 +10,8 @@ use std::sync::atomic::AtomicU64;
 
 const READ_AND_WRITE: c_int = 3; // PROT_READ | PROT_WRITE
 const SHARED: c_int = 1; // MAP_SHARED
+const KEEP_LENGTH: c_int = 1; // FALLOC_FL_KEEP_SIZE
+const NO_SUCH_CALL: [i32; 2] = [38, 95]; // ENOSYS, EOPNOTSUPP: the file system can't do it
 
 extern "C" {
     fn mmap(
@@ -21,6 +23,38 @@ extern "C" {
         offset: c_long,
     ) -> *mut c_void;
     fn munmap(at: *mut c_void, length: usize) -> c_int;
+    fn fallocate(file: c_int, mode: c_int, offset: i64, length: i64) -> c_int;
+}
+
+/// Takes room on the disk for a file, which keeps its length. Without room, the first store to a
+/// page of a mapping ends the process by SIGBUS. If the file system can't take room, this does
+/// nothing.
+///
+/// # Errors
+///
+/// Those of the system, such as a full disk.
+///
+/// # Examples
+///
+/// ```
+/// # fn main() -> std::io::Result<()> {
+/// let path = std::env::temp_dir().join(format!("amo-sys-room.{}", std::process::id()));
+/// let file = std::fs::File::create(&path)?;
+/// amo_sys::take_room(&file, 8192)?;
+/// assert_eq!(file.metadata()?.len(), 0);
+/// # std::fs::remove_file(path)
+/// # }
+/// ```
+pub fn take_room(file: &File, length: u64) -> io::Result<()> {
+    let length = i64::try_from(length).map_err(|_| io::ErrorKind::InvalidInput)?;
+    // SAFETY: the call takes four numbers, and the descriptor is open.
+    if unsafe { fallocate(file.as_raw_fd(), KEEP_LENGTH, 0, length) } == 0 {
+        return Ok(());
+    }
+    match io::Error::last_os_error() {
+        error if NO_SUCH_CALL.map(Some).contains(&error.raw_os_error()) => Ok(()),
+        error => Err(error),
+    }
 }
 
 /// The words of a file, mapped into memory, which other processes may map too.

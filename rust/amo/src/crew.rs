@@ -104,7 +104,7 @@ impl<R: Registers> Crew<R> {
     ///
     /// # Errors
     ///
-    /// If a number breaks its limit.
+    /// If a number breaks its limit, or the registers were made for other numbers.
     ///
     /// # Examples
     ///
@@ -121,7 +121,7 @@ impl<R: Registers> Crew<R> {
     ///
     /// # Errors
     ///
-    /// If a number breaks its limit.
+    /// If a number breaks its limit, or the registers were made for other numbers.
     ///
     /// # Examples
     ///
@@ -131,6 +131,12 @@ impl<R: Registers> Crew<R> {
     /// ```
     pub fn with_beta(registers: R, workers: u32, jobs: u32, beta: u32) -> Result<Crew<R>, Fault> {
         let givens = checked(workers, jobs, beta)?;
+        match registers.numbers() {
+            Some(made) if made != (workers, jobs) => {
+                return Err(Fault::OtherNumbers(made.0, made.1))
+            }
+            _ => (),
+        }
         let taken = (0..workers).map(|_| AtomicBool::new(false)).collect();
         Ok(Crew {
             givens,

@@ -29,6 +29,10 @@ pub enum Fault {
     NoSuchWorker,
     /// Another thread or process acts as this worker.
     Taken(u32),
+    /// The registers were made for so many workers and jobs, and others were given.
+    OtherNumbers(u32, u32),
+    /// The worker of this number belongs to another process, of which this one is a child.
+    OtherProcess(u32),
     /// The registers hold a value that no worker stores, so a job might be performed twice. **Stop
     /// all workers**, and find out what else writes to the registers.
     Damaged,
@@ -79,6 +83,20 @@ impl fmt::Display for Fault {
                     out,
                     "worker {number}: another thread or process has this number; wait until that \
                      has ended, or give another number"
+                )
+            }
+            Fault::OtherNumbers(workers, jobs) => {
+                return write!(
+                    out,
+                    "registers: they were made for {workers} workers and {jobs} jobs; give these \
+                     numbers, or other registers"
+                )
+            }
+            Fault::OtherProcess(number) => {
+                return write!(
+                    out,
+                    "worker {number}: it belongs to the process that began it; begin a worker in \
+                     the process that uses it"
                 )
             }
             Fault::Registers(error) => return write!(out, "registers: {error}"),

@@ -14,14 +14,16 @@ const BOOT: &str = "/proc/sys/kernel/random/boot_id";
 
 /// Registers in a file that processes map into their memory.
 ///
-/// Choose a file on a local disk. Each worker has a lock on a file beside it, `PATH.NUMBER`, which
-/// the kernel drops once the worker's process is gone, and `PATH.boot` has the boot of the machine.
-/// **Keep these files together**: without them every job is handed out again. Remove all of them
-/// once no worker lives and no job is to come. Programs in C and in Python may share the file.
+/// Choose a file on a local disk, in a folder that nobody cleans. Each worker has a lock on a file
+/// beside it, `PATH.NUMBER`, which the kernel drops once the worker's process is gone. `PATH.boot`
+/// has the boot of the machine, and the numbers of workers and jobs. **Keep these files together**:
+/// if all are gone, every job is handed out again. Remove all of them once no worker lives and no
+/// job is to come. Programs in C and in Python may share the file.
 ///
 /// Once the machine was started anew, the file may lack stores, so it is refused. It is refused too
-/// if it is missing or empty and `PATH.boot` is there. A file in /dev/shm is lost with `PATH.boot`,
-/// so new registers are made there, and every job is handed out again.
+/// if it is missing or empty and `PATH.boot` is there, and if `PATH.boot` is missing beside it, as
+/// beside a copy or a hard link. A file in /dev/shm or /tmp is lost with `PATH.boot`, so new
+/// registers are made there, and every job is handed out again.
 ///
 /// # Examples
 ///
@@ -40,6 +42,8 @@ const BOOT: &str = "/proc/sys/kernel/random/boot_id";
 pub struct MappedFile {
     path: PathBuf,
     map: amo_sys::Map,
+    workers: u32,
+    jobs: u32,
 }
 
 impl MappedFile {
@@ -48,7 +52,8 @@ impl MappedFile {
     /// # Errors
     ///
     /// If a number breaks its limit, the file belongs to a run with other numbers or to an earlier
-    /// boot of the machine, its registers are gone, or it can't be opened.
+    /// boot of the machine, its registers are gone, `PATH.boot` is missing beside them, or it can't
+    /// be opened.
     ///
     /// # Examples
     ///
@@ -57,28 +62,20 @@ impl MappedFile {
     /// ```
     pub fn open(path: impl AsRef<Path>, workers: u32, jobs: u32) -> Result<MappedFile, Fault> {
         let count = words(workers, jobs)?;
-        let file = opened(path.as_ref())?;
+        opened(path.as_ref())?; // makes a missing file, also at the end of a link
         let path = fs::canonicalize(path)?; // so that a link leads to the same locks
-        let boot = beside(&path, "boot");
+        let note = Note::of(&path, workers, jobs)?;
+        let file = opened(&path)?; // by this path, since the link may lead elsewhere by now
         let gate = opened(&path)?; // of its own, since a mapping keeps its file locked
         amo_sys::lock(&gate, true)?; // another process may make the file too
-        if file.metadata()?.len() == 0 {
-            note_boot(&boot)?;
-            file.set_len(8 * count as u64)?;
-        }
-        check_boot(&boot)?;
-        let found = file.metadata()?.len();
-        if found != 8 * count as u64 {
-            let text = format!(
-                "`{}`: it has {found} bytes, and the registers of this run have {}; give the \
-                 numbers of the run that made it, or another path",
-                path.display(),
-                8 * count
-            );
-            return Err(io::Error::new(io::ErrorKind::InvalidInput, text).into());
-        }
+        make_or_check(&file, &path, &note, 8 * count as u64)?;
         let map = amo_sys::Map::new(&file, count)?;
-        Ok(MappedFile { path, map })
+        Ok(MappedFile {
+            path,
+            map,
+            workers,
+            jobs,
+        })
     }
 }
 
@@ -100,42 +97,94 @@ fn beside(path: &Path, ending: &str) -> PathBuf {
     found.into()
 }
 
-/// Makes the file that names this boot, and has it on the disk when this returns. If it exists,
-/// registers were made, and are gone.
-fn note_boot(path: &Path) -> io::Result<()> {
-    let made = OpenOptions::new().write(true).create_new(true).open(path);
-    let mut file = made.map_err(|error| match error.kind() {
-        io::ErrorKind::AlreadyExists => gone(path),
-        _ => error,
-    })?;
-    file.write_all(&fs::read(BOOT)?)?;
-    file.sync_all()?;
-    // since otherwise a crash of the machine can lose the name of the file
-    let folder = path.parent().filter(|it| !it.as_os_str().is_empty());
-    File::open(folder.unwrap_or_else(|| Path::new(".")))?.sync_all()
+/// Makes the registers of an empty file, or checks those of another one.
+fn make_or_check(file: &File, path: &Path, note: &Note, length: u64) -> io::Result<()> {
+    if file.metadata()?.len() == 0 {
+        amo_sys::take_room(file, length)?; // since a store without room ends the process
+        note.make()?;
+        file.set_len(length)?;
+    }
+    note.check()?;
+    let found = file.metadata()?.len();
+    if found == length {
+        return Ok(());
+    }
+    let why = format!(
+        "it has {found} bytes, and its registers have {length}; perform no job of them again, and \
+         use another path for other jobs"
+    );
+    Err(refusal(path, &why))
 }
 
-fn gone(path: &Path) -> io::Error {
-    let text = format!(
-        "`{}`: it shows that registers were made, and they are gone; perform no job of them again, \
-         and use another path for other jobs",
-        path.display()
-    );
+fn refusal(path: &Path, why: &str) -> io::Error {
+    let text = format!("`{}`: {why}", path.display());
     io::Error::new(io::ErrorKind::InvalidData, text)
 }
 
-/// Refuses a file that names another boot. Without the file, which older programs in C don't make,
-/// nothing is compared.
-fn check_boot(path: &Path) -> io::Result<()> {
-    if !path.exists() || fs::read(path)? == fs::read(BOOT)? {
-        return Ok(());
+/// The file that shows that registers were made: in which boot, and for how many workers and jobs.
+struct Note {
+    path: PathBuf,
+    boot: Vec<u8>,
+    numbers: String,
+}
+
+impl Note {
+    /// Returns the note that belongs beside these registers.
+    fn of(path: &Path, workers: u32, jobs: u32) -> io::Result<Note> {
+        Ok(Note {
+            path: beside(path, "boot"),
+            boot: fs::read(BOOT)?,
+            numbers: format!("{workers} {jobs}\n"),
+        })
     }
-    let text = format!(
-        "`{}`: the registers are of an earlier boot of the machine, so stores may be lost; perform \
-         no job of them again, and use another path for other jobs",
-        path.display()
-    );
-    Err(io::Error::new(io::ErrorKind::InvalidData, text))
+
+    /// Makes the file, and has it on the disk when this returns. If it exists, registers were made,
+    /// and are gone.
+    fn make(&self) -> io::Result<()> {
+        let made = OpenOptions::new()
+            .write(true)
+            .create_new(true)
+            .open(&self.path);
+        let mut file = made.map_err(|error| match error.kind() {
+            io::ErrorKind::AlreadyExists => self.refusal(
+                "it shows that registers were made, and they are gone; perform no job of them \
+                 again, and use another path for other jobs",
+            ),
+            _ => error,
+        })?;
+        file.write_all(&[&self.boot[..], self.numbers.as_bytes()].concat())?;
+        file.sync_all()?;
+        // since otherwise a crash of the machine can lose the name of the file
+        let folder = self.path.parent().filter(|it| !it.as_os_str().is_empty());
+        File::open(folder.unwrap_or_else(|| Path::new(".")))?.sync_all()
+    }
+
+    /// Refuses registers whose note is missing, or is that of another boot or of other numbers.
+    fn check(&self) -> io::Result<()> {
+        let found = fs::read(&self.path).map_err(|error| match error.kind() {
+            io::ErrorKind::NotFound => self.refusal(
+                "it is missing, so the registers may be a copy, or have another name; give the \
+                 path by which they were made, or another path for other jobs",
+            ),
+            _ => error,
+        })?;
+        match found.strip_prefix(&self.boot[..]) {
+            Some(numbers) if numbers == self.numbers.as_bytes() => Ok(()),
+            Some(_) => Err(self.refusal(&format!(
+                "its second line isn't `{}`, the workers and jobs that are given; give those of \
+                 the run that made it, or another path",
+                self.numbers.trim_end()
+            ))),
+            None => Err(self.refusal(
+                "the registers are of an earlier boot of the machine, so stores may be lost; \
+                 perform no job of them again, and use another path for other jobs",
+            )),
+        }
+    }
+
+    fn refusal(&self, why: &str) -> io::Error {
+        refusal(&self.path, why)
+    }
 }
 
 impl Registers for MappedFile {
@@ -145,6 +194,10 @@ impl Registers for MappedFile {
 
     fn store(&self, place: usize, value: u64) -> io::Result<()> {
         registers::store(&self.map, place, value)
+    }
+
+    fn numbers(&self) -> Option<(u32, u32)> {
+        Some((self.workers, self.jobs))
     }
 
     fn lock(&self, number: u32, waits: bool) -> io::Result<Option<Lock>> {

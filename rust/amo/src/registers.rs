@@ -59,8 +59,16 @@ pub trait Registers {
     ///
     /// # Errors
     ///
-    /// Whatever keeps it from being stored. It may have been stored all the same.
+    /// Whatever keeps it from being stored. It may have been stored all the same. **A store that
+    /// fails must never land after it returned**: the worker reads the register anew, and a store
+    /// that lands later than that may lead to a job that is performed twice.
     fn store(&self, place: usize, value: u64) -> io::Result<()>;
+
+    /// Returns the numbers of workers and jobs for which these registers were made, if they know
+    /// them. A crew with other numbers refuses them.
+    fn numbers(&self) -> Option<(u32, u32)> {
+        None
+    }
 
     /// Holds the number of a worker, or returns None if another process holds it. If `waits` is
     /// true, it waits until the number is free.

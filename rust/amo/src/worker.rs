@@ -5,6 +5,7 @@ use crate::fault::Fault;
 use crate::registers::{Lock, Registers};
 use amo_sys::{Item, ALL_ITEMS};
 use std::mem;
+use std::process;
 use std::sync::atomic::Ordering::SeqCst;
 
 /// The one worker of its number, until it is dropped. A worker that is dropped anywhere is as dead
@@ -37,7 +38,8 @@ use std::sync::atomic::Ordering::SeqCst;
 pub struct Worker<'a, R: Registers> {
     crew: &'a Crew<R>,
     number: u32,
-    heard: Vec<u64>, // the values that it has read since it began, and 0 for each store
+    process: u32,       // a child process has a copy of the worker
+    heard: Vec<u64>,    // the values that it has read since it began, and 0 for each store
     next: Vec<Item>, // the accesses after the one that recorded the last job, until the next step
     has_reported: bool, // the doubt that it found as it began
     lock: Lock,
@@ -135,6 +137,7 @@ impl<'a, R: Registers> Worker<'a, R> {
         let mut worker = Worker {
             crew,
             number,
+            process: process::id(),
             heard: Vec::new(),
             next: Vec::new(),
             has_reported: false,
@@ -184,8 +187,8 @@ impl<'a, R: Registers> Worker<'a, R> {
     ///
     /// # Errors
     ///
-    /// [`Fault::Damaged`], [`Fault::NoMemory`], and [`Fault::Registers`] if an access fails: the
-    /// worker begins again at the next step then.
+    /// [`Fault::Damaged`], [`Fault::NoMemory`], [`Fault::OtherProcess`], and [`Fault::Registers`] if
+    /// an access fails: the worker begins again at the next step then.
     ///
     /// # Examples
     ///
@@ -199,6 +202,7 @@ impl<'a, R: Registers> Worker<'a, R> {
     /// # }
     /// ```
     pub fn step(&mut self) -> Result<Step<'_, 'a, R>, Fault> {
+        self.check_process()?;
         let mut items = [Item::default(); ALL_ITEMS];
         for item in mem::take(&mut self.next) {
             self.carry_out(&item)?;
@@ -297,6 +301,7 @@ impl<'a, R: Registers> Worker<'a, R> {
     /// # }
     /// ```
     pub fn leave(mut self) -> Result<(), Fault> {
+        self.check_process()?;
         let (givens, number) = (&self.crew.givens, self.number.into());
         loop {
             let next = amo_sys::next(givens, number, &self.heard).map_err(Fault::of)?;
@@ -313,6 +318,15 @@ impl<'a, R: Registers> Worker<'a, R> {
             Ok(next) => Ok(self.crew.registers.store(next.word as usize, next.value)?),
             Err(amo_sys::MAY_NOT_LEAVE) => Ok(()),
             Err(code) => Err(Fault::of(code)),
+        }
+    }
+
+    /// Refuses to go on in a child process, since its parent goes on too.
+    fn check_process(&self) -> Result<(), Fault> {
+        if self.process == process::id() {
+            Ok(())
+        } else {
+            Err(Fault::OtherProcess(self.number))
         }
     }
 
@@ -386,6 +400,7 @@ impl<R: Registers> Job<'_, '_, R> {
     /// ```
     pub fn done(self) -> Result<(), Fault> {
         let (worker, mut items) = (self.worker, self.items.into_iter());
+        worker.check_process()?;
         worker.heard = self.heard;
         if let Some(first) = items.next() {
             worker.carry_out(&first)?;

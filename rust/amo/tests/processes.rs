@@ -1,10 +1,10 @@
 //! Processes over a mapped file, which are killed by SIGKILL at each of their accesses in turn.
 
-use amo::{Crew, Lock, MappedFile, Registers};
+use amo::{Crew, Fault, Lock, MappedFile, Registers, Step};
 use std::cell::Cell;
 use std::fs::{self, OpenOptions};
 use std::io::{self, Write};
-use std::os::unix::fs::symlink;
+use std::os::unix::fs::{symlink, MetadataExt};
 use std::os::unix::process::ExitStatusExt;
 use std::path::{Path, PathBuf};
 use std::process::{self, Command, ExitStatus};
@@ -171,8 +171,7 @@ fn check(folder: &Path, kills: u32) {
 
 #[test]
 fn two_processes_of_one_number() {
-    let folder = env::temp_dir().join(format!("amo-taken.{}", process::id()));
-    fs::create_dir(&folder).expect("a folder");
+    let folder = folder_of("taken");
     let open = || MappedFile::open(folder.join("words"), WORKERS, JOBS).expect("a file");
     let (one, two) = (
         Crew::new(open(), WORKERS, JOBS),
@@ -180,7 +179,7 @@ fn two_processes_of_one_number() {
     );
     let (one, two) = (one.expect("a crew"), two.expect("a crew"));
     let worker = one.worker(1).expect("nobody has this number");
-    assert!(matches!(two.worker(1), Err(amo::Fault::Taken(1))));
+    assert!(matches!(two.worker(1), Err(Fault::Taken(1))));
     assert!(!ended(&folder, 1, NEVER).success()); // nor can another process
     drop(worker);
     // another test's child may have the lock too, until it becomes its program
@@ -190,8 +189,7 @@ fn two_processes_of_one_number() {
 
 #[test]
 fn two_workers_of_one_number_by_two_paths() {
-    let folder = env::temp_dir().join(format!("amo-paths.{}", process::id()));
-    fs::create_dir(&folder).expect("a folder");
+    let folder = folder_of("paths");
     let crew_at = |name: &str| {
         let file = MappedFile::open(folder.join(name), WORKERS, JOBS).expect("a file");
         Crew::new(file, WORKERS, JOBS).expect("a crew")
@@ -200,44 +198,68 @@ fn two_workers_of_one_number_by_two_paths() {
     symlink("words", folder.join("link")).expect("a link");
     let two = crew_at("link");
     let worker = one.worker(1).expect("nobody has this number");
-    assert!(matches!(two.worker(1), Err(amo::Fault::Taken(1))));
-    // a mistake: another name of the file has locks of its own, so both would perform each job
+    assert!(matches!(two.worker(1), Err(Fault::Taken(1))));
+    // another name of the file has locks of its own, so both would perform each job
     fs::hard_link(folder.join("words"), folder.join("other")).expect("a name");
-    assert!(crew_at("other").worker(1).is_ok());
+    refuses(&folder.join("other"), (WORKERS, JOBS), "it is missing");
     drop(worker);
     fs::remove_dir_all(&folder).expect("the folder");
 }
 
+/// Has this file refused for these numbers of workers and jobs, for this reason.
+fn refuses(path: &Path, numbers: (u32, u32), why: &str) {
+    let fault = MappedFile::open(path, numbers.0, numbers.1).expect_err(why);
+    assert!(fault.to_string().contains(why), "{fault}: {why}");
+}
+
+/// Returns a new folder, whose name has this word.
+fn folder_of(word: &str) -> PathBuf {
+    let folder = env::temp_dir().join(format!("amo-{word}.{}", process::id()));
+    fs::create_dir(&folder).expect("a folder");
+    folder
+}
+
 #[test]
 fn a_file_of_an_earlier_boot() {
-    let folder = env::temp_dir().join(format!("amo-boot.{}", process::id()));
-    fs::create_dir(&folder).expect("a folder");
+    let folder = folder_of("boot");
     let path = folder.join("words");
     MappedFile::open(&path, 2, 3).expect("a file");
     MappedFile::open(&path, 2, 3).expect("the same file");
-    fs::write(
-        folder.join("words.boot"),
-        "00000000-0000-0000-0000-000000000000\n",
-    )
-    .expect("room");
-    assert!(matches!(
-        MappedFile::open(&path, 2, 3),
-        Err(amo::Fault::Registers(_))
-    ));
+    for text in ["00000000-0000-0000-0000-000000000000\n2 3\n", ""] {
+        fs::write(folder.join("words.boot"), text).expect("room");
+        refuses(&path, (2, 3), "an earlier boot");
+    }
+    fs::remove_dir_all(&folder).expect("the folder");
+}
+
+#[test]
+fn registers_without_their_note() {
+    let folder = folder_of("note");
+    let (path, note) = (folder.join("words"), folder.join("words.boot"));
+    assert_eq!(all_performed(&path), [1, 2, 3]);
+    fs::copy(&path, folder.join("copy")).expect("room");
+    refuses(&folder.join("copy"), (1, 3), "it is missing");
+    fs::rename(&note, folder.join("kept")).expect("a name");
+    refuses(&path, (1, 3), "it is missing");
+    symlink("nowhere", &note).expect("a link");
+    refuses(&path, (1, 3), "it is missing");
+    fs::remove_file(&note).expect("the link");
+    symlink("words.boot", &note).expect("a link to itself");
+    assert!(MappedFile::open(&path, 1, 3).is_err()); // it can't be looked at
+    fs::remove_file(&note).expect("the link");
+    fs::rename(folder.join("kept"), &note).expect("a name");
+    assert!(all_performed(&path).is_empty());
     fs::remove_dir_all(&folder).expect("the folder");
 }
 
 #[test]
 fn registers_that_are_gone_and_begin_anew() {
-    let folder = env::temp_dir().join(format!("amo-gone.{}", process::id()));
-    fs::create_dir(&folder).expect("a folder");
+    let folder = folder_of("gone");
     let path = folder.join("words");
     assert_eq!(all_performed(&path), [1, 2, 3]);
     fs::remove_file(&path).expect("the file");
     for _ in 0..2 {
-        // the first call leaves an empty file
-        let fault = MappedFile::open(&path, 1, 3).expect_err("the registers are gone");
-        assert!(fault.to_string().contains("they are gone"), "{fault}");
+        refuses(&path, (1, 3), "they are gone"); // the first call leaves an empty file
     }
     // a mistake: without the note the jobs are performed twice
     fs::remove_file(folder.join("words.boot")).expect("the note");
@@ -259,13 +281,87 @@ fn all_performed(path: &Path) -> Vec<u32> {
 
 #[test]
 fn a_file_of_another_run() {
-    let folder = env::temp_dir().join(format!("amo-other.{}", process::id()));
-    fs::create_dir(&folder).expect("a folder");
-    let path = folder.join("words");
-    MappedFile::open(&path, 2, 3).expect("a file");
-    assert!(matches!(
-        MappedFile::open(&path, 2, 4),
-        Err(amo::Fault::Registers(_))
-    ));
+    let folder = folder_of("other");
+    let (path, note) = (folder.join("words"), folder.join("words.boot"));
+    // 24 words: 2 announcements, 2 claims and 2 rows of 10, or 3 of each and 3 rows of 6
+    assert_eq!(amo::words(2, 9).unwrap(), amo::words(3, 5).unwrap());
+    MappedFile::open(&path, 2, 9).expect("a file");
+    for numbers in [(3, 5), (2, 8)] {
+        refuses(&path, numbers, "its second line isn't");
+    }
+    let boot = fs::read_to_string(&note).expect("the note");
+    fs::write(
+        &note,
+        boot.lines().next().expect("a line").to_owned() + "\n",
+    )
+    .expect("room");
+    refuses(&path, (2, 9), "its second line isn't `2 9`");
+    fs::write(&note, boot).expect("room");
+    let file = OpenOptions::new().write(true).open(&path).expect("a file");
+    file.set_len(8).expect("a length");
+    refuses(&path, (2, 9), "it has 8 bytes");
+    fs::remove_dir_all(&folder).expect("the folder");
+}
+
+#[test]
+fn a_crew_of_other_numbers_than_its_registers() {
+    let folder = folder_of("numbers");
+    for numbers in [(1, 9), (2, 8), (3, 5)] {
+        let file = MappedFile::open(folder.join("words"), 2, 9).expect("a file");
+        assert!(matches!(
+            Crew::new(file, numbers.0, numbers.1),
+            Err(Fault::OtherNumbers(2, 9))
+        ));
+    }
+    let file = MappedFile::open(folder.join("words"), 2, 9).expect("a file");
+    Crew::new(file, 2, 9).expect("these numbers");
+    fs::remove_dir_all(&folder).expect("the folder");
+}
+
+#[test]
+fn registers_that_find_no_room_later() {
+    let folder = folder_of("room");
+    MappedFile::open(folder.join("words"), 16, 4096).expect("a file");
+    let found = fs::metadata(folder.join("words")).expect("the file");
+    assert!(found.blocks() * 512 >= found.len(), "{}", found.blocks());
+    fs::remove_dir_all(&folder).expect("the folder");
+}
+
+extern "C" {
+    fn fork() -> i32;
+    fn waitpid(process: i32, status: *mut i32, options: i32) -> i32;
+    fn _exit(status: i32) -> !;
+}
+
+/// Returns how many of these calls a child process refuses as another one's worker.
+fn refused_in_a_child(worker: &mut amo::Worker<'_, MappedFile>) -> i32 {
+    let mut refused = 0;
+    if let Step::Perform(job) = worker.step().expect("no fault") {
+        // SAFETY: the child makes calls of this crate alone, and ends.
+        let child = unsafe { fork() };
+        if child == 0 {
+            refused += i32::from(matches!(job.done(), Err(Fault::OtherProcess(1))));
+            refused += i32::from(matches!(worker.step(), Err(Fault::OtherProcess(1))));
+            unsafe { _exit(refused) }
+        }
+        // SAFETY: the status is this function's own.
+        unsafe { waitpid(child, &mut refused, 0) };
+        job.done().expect("no fault");
+    }
+    refused >> 8
+}
+
+#[test]
+fn a_child_process_that_goes_on() {
+    let folder = folder_of("child");
+    let file = MappedFile::open(folder.join("words"), 1, 3).expect("a file");
+    let crew = Crew::new(file, 1, 3).expect("a crew");
+    let mut worker = crew.worker(1).expect("nobody has this number");
+    assert_eq!(refused_in_a_child(&mut worker), 2);
+    let mut performed = Vec::new();
+    worker
+        .run(|job| performed.push(job), |doubt| panic!("{doubt:?}"))
+        .expect("no fault");
+    assert_eq!(performed, [2, 3]);
     fs::remove_dir_all(&folder).expect("the folder");
 }
