@@ -156,8 +156,10 @@ def answer(jobs: Path, doubt: Union[Doubt, Attempt], done: bool, *, quiet: Optio
 
     If it wasn't, the attempt must have ended `quiet` seconds ago (60 if you don't give it), since a
     request may arrive late; `now` doesn't wait. Raises Refused if the answer comes too early, with
-    the status 75, or isn't taken, and OSError.
+    the status 75, or isn't taken; OSError; and TypeError if `done` is neither True nor False.
     """
+    if not isinstance(done, bool):  # None, from a lookup that found nothing, is no answer
+        raise TypeError(f"done `{done}`: it isn't an answer; give True or False once you know")
     words = [*_folder(folder), *options, *(["--now"] if now else [])]
     words += ["--quiet", str(quiet)] if quiet is not None else []
     _called("answer", [*words, "--", _list(jobs), doubt.name, str(doubt.line), doubt.text,

@@ -6,6 +6,7 @@ Begin with `Library`. `examples/c/amo.h` describes each call.
 from __future__ import annotations
 
 import ctypes
+import operator
 import os
 from functools import lru_cache
 from typing import Any, List, Optional, Sequence, Tuple
@@ -68,6 +69,12 @@ def calls() -> ctypes.CDLL:
     return found
 
 
+def whole(number: int) -> int:
+    """Returns a number as an int and nothing else, since an enumeration has another text. Raises
+    TypeError if it isn't whole."""
+    return int(operator.index(number))
+
+
 class Heard:
     """The values that a process has read since it began, and 0 for each of its stores."""
 
@@ -95,7 +102,8 @@ class Library:
 
         Raises ValueError if a number is beyond its limit.
         """
-        beta = workers if beta is None else beta
+        jobs, workers = whole(jobs), whole(workers)
+        beta = workers if beta is None else whole(beta)
         for name, number in (("jobs", jobs), ("workers", workers), ("beta", beta)):
             if not 0 <= number < ABOVE:
                 raise ValueError(f"{name} {number}: it isn't a number of 64 bits; give a valid one")
@@ -104,6 +112,8 @@ class Library:
 
     def next(self, worker: int, heard: Heard) -> Next:
         """Returns the next access of a worker."""
+        if not 0 <= worker < ABOVE:  # else the call gets another number
+            raise ValueError(self._limit(NO_SUCH_WORKER, worker))
         told = Next()
         self._check(self.calls.amo_next(self.givens, worker, heard.numbers, heard.len, told),
                     worker)

@@ -16,9 +16,10 @@ import time
 from multiprocessing.shared_memory import SharedMemory
 from typing import Any, Callable, Dict, Protocol, Union
 
-from amo.library import Library, calls
+from amo.library import Library, calls, whole
 
 PAUSE = 0.01  # seconds between two tries of a lock
+KEEP_LENGTH = 1  # FALLOC_FL_KEEP_SIZE
 
 
 class Taken(RuntimeError):
@@ -41,7 +42,12 @@ class Registers(Protocol):
         ...
 
     def store(self, place: int, value: int) -> None:
-        """Stores a value in the register at this place, and returns once all see it."""
+        """Stores a value in the register at this place, and returns once all see it.
+
+        It may raise an exception, whether the value was stored or not. **A store that fails must
+        never land after it returned**, as a request over a network may. The worker reads the
+        register anew, and a store that lands later than that may lead to a job that is performed
+        twice."""
         ...
 
 
@@ -85,6 +91,7 @@ class Words:
         """Takes a buffer that stays where it is, and is 0 at first. Raises ValueError if it is too
         short, or not aligned."""
         self._calls, self._length = calls(), size(workers, jobs)
+        self.numbers = whole(workers), whole(jobs)
         if memoryview(buffer).nbytes < self._length:
             raise ValueError(f"registers: they have {memoryview(buffer).nbytes} bytes; give"
                              f" {self._length}, or the numbers of the run that made them")
@@ -148,13 +155,15 @@ class Shared(Words):
     >>> memory.close()
     >>> memory.unlink()
 
-    The memory outlives the processes, and ends when it is unlinked or the machine is started anew.
-    **Then begin no new registers over the same jobs**, unless a journal of yours shows which jobs
-    were begun: otherwise each may be performed again.
+    Start the processes by `multiprocessing`, and create the memory in the process above them. A
+    process that is killed leaves the memory there. **The memory goes with the last process of the
+    tree that made it**: once the maker and all processes below it have ended, Python unlinks the
+    memory. **Then begin no new registers over the same jobs**, unless a journal of yours shows
+    which jobs were begun: otherwise each may be performed again. If the whole program may be
+    started again, take a `File`.
 
-    Start the processes by `multiprocessing`, and create the memory in the process above them. Until
-    Python 3.13, a process that wasn't started so unlinks the memory when it ends; from then on,
-    SharedMemory takes track=False.
+    Until Python 3.13, a process that wasn't started by `multiprocessing` unlinks the memory when it
+    ends. From then on, SharedMemory takes track=False.
     """
 
     def __init__(self, memory: SharedMemory, workers: int, jobs: int):
@@ -179,40 +188,45 @@ class File(Words):
     >>> registers.load(1)
     0
 
-    Choose a file on a local disk. Each worker has a lock on a file beside it, `PATH.NUMBER`, and
-    `PATH.boot` has the boot of the machine. **Keep these files together**: without them every job
-    is handed out again. Remove all of them once no worker lives and no job is to come. A program in
-    C or Rust may share the file: examples/c/crew.c does.
+    Choose a file on a local disk, in a folder that nobody cleans. Each worker has a lock on a file
+    beside it, `PATH.NUMBER`. `PATH.boot` has the boot of the machine, and the numbers of workers
+    and jobs. **Keep these files together**: if all are gone, every job is handed out again. Remove
+    all of them once no worker lives and no job is to come. A program in C or Rust may share the
+    file: examples/c/crew.c does.
 
     Once the machine was started anew, the file may lack stores, so it is refused. It is refused too
-    if it is missing or empty and `PATH.boot` is there. A file in /dev/shm is lost with `PATH.boot`,
-    so new registers are made there, and every job is handed out again.
+    if it is missing or empty and `PATH.boot` is there, and if `PATH.boot` is missing beside it, as
+    beside a copy or a hard link. A file in /dev/shm or /tmp is lost with `PATH.boot`, so new
+    registers are made there, and every job is handed out again.
     """
 
     def __init__(self, path: Union[str, "os.PathLike[str]"], workers: int, jobs: int):
         """Raises ValueError if the file belongs to a run with other numbers or to an earlier boot
-        of the machine, or if its registers are gone; and OSError."""
+        of the machine, if its registers are gone, or if `PATH.boot` is missing beside them; and
+        OSError, also if a standard stream is closed."""
         # a link, or another working folder later, leads to the same locks
         self._path, length = os.path.realpath(path), size(workers, jobs)
+        check_streams()
         file = os.open(self._path, os.O_RDWR | os.O_CREAT | os.O_CLOEXEC, 0o600)
         try:
             fcntl.flock(file, fcntl.LOCK_EX)  # since another process may make it too
-            self._make_or_check(file, length)
+            self._make_or_check(file, length, note_of(workers, jobs))
             fcntl.flock(file, fcntl.LOCK_UN)
             super().__init__(mmap.mmap(file, length), workers, jobs)
         finally:
             os.close(file)
 
-    def _make_or_check(self, file: int, length: int) -> None:
+    def _make_or_check(self, file: int, length: int, note: str) -> None:
         """Makes the registers of an empty file, or checks those of another one."""
         if os.fstat(file).st_size == 0:
-            note_boot(f"{self._path}.boot")
+            take_room(self._path, file, length)  # since a store without room ends the process
+            make_note(f"{self._path}.boot", note)
             os.truncate(file, length)
+        check_note(f"{self._path}.boot", note)
         if os.fstat(file).st_size != length:
-            raise ValueError(f"`{self._path}`: it has {os.fstat(file).st_size} bytes, and the"
-                             f" registers of this run have {length}; give the numbers of the run"
-                             " that made it, or another path")
-        check_boot(f"{self._path}.boot")
+            raise ValueError(f"`{self._path}`: it has {os.fstat(file).st_size} bytes, and its"
+                             f" registers have {length}; perform no job of them again, and use"
+                             " another path for other jobs")
 
     def guard(self, number: int) -> Guard:
         """Holds the number of a worker, by a lock on the file `PATH.NUMBER`. Raises Taken if
@@ -222,39 +236,87 @@ class File(Words):
 
 
 def boot() -> str:
-    """Returns the id of this boot of the machine."""
+    """Returns the id of this boot of the machine, in a line."""
     with open("/proc/sys/kernel/random/boot_id", encoding="ascii") as file:
         return file.read()
 
 
-def note_boot(path: str) -> None:
-    """Makes the file that names this boot, and has it on the disk when this returns. Raises
-    ValueError if it exists: then registers were made, and are gone."""
+def note_of(workers: int, jobs: int) -> str:
+    """Returns the text of the file that shows that registers of these numbers were made."""
+    return f"{boot()}{whole(workers)} {whole(jobs)}\n"
+
+
+def make_note(path: str, note: str) -> None:
+    """Makes the file that shows that registers were made, and has it on the disk when this returns.
+    Raises ValueError if it exists: then registers were made, and are gone."""
     try:
-        with open(path, "x", encoding="ascii") as note:
-            note.write(boot())
+        with open(path, "x", encoding="ascii") as file:
+            file.write(note)
     except FileExistsError:
         raise ValueError(f"`{path}`: it shows that registers were made, and they are gone; perform"
                          " no job of them again, and use another path for other jobs") from None
     for name in (path, os.path.dirname(os.path.abspath(path))):  # a folder has its files' names
-        file = os.open(name, os.O_RDONLY)
-        os.fsync(file)
-        os.close(file)
+        synced = os.open(name, os.O_RDONLY)
+        os.fsync(synced)
+        os.close(synced)
 
 
-def check_boot(path: str) -> None:
-    """Raises ValueError if the file names another boot. Older programs in C don't make it."""
-    if os.path.exists(path):
+def check_note(path: str, note: str) -> None:
+    """Raises ValueError if the file is missing, or has another boot or other numbers."""
+    try:
         with open(path, encoding="ascii", errors="replace") as file:
-            if file.read() != boot():
-                raise ValueError(f"`{path}`: the registers are of an earlier boot of the machine,"
-                                 " so stores may be lost; perform no job of them again, and use"
-                                 " another path for other jobs")
+            found = file.read()
+    except FileNotFoundError:
+        raise ValueError(f"`{path}`: it is missing, so the registers may be a copy, or have another"
+                         " name; give the path by which they were made, or another path for other"
+                         " jobs") from None
+    first, numbers = note.splitlines(keepends=True)
+    if not found.startswith(first):
+        raise ValueError(f"`{path}`: the registers are of an earlier boot of the machine, so stores"
+                         " may be lost; perform no job of them again, and use another path for"
+                         " other jobs")
+    if found != note:
+        raise ValueError(f"`{path}`: its second line isn't `{numbers.strip()}`, the workers and"
+                         " jobs that are given; give those of the run that made it, or another"
+                         " path")
+
+
+def check_streams() -> None:
+    """Raises OSError if a standard stream is closed. A file would get the number of that stream:
+    then what is printed goes into the registers, and a new stream drops a lock."""
+    for number in (0, 1, 2):
+        try:
+            os.fstat(number)
+        except OSError as error:
+            raise OSError(error.errno, f"standard stream {number}: it is closed, so a file would"
+                                       " get its number; open it, on /dev/null for example, and"
+                                       " begin again") from None
+
+
+def take_room(path: str, file: int, length: int) -> None:
+    """Takes room on the disk for a file, which keeps its length, if the file system can do so.
+    Raises OSError if there is no room."""
+    take = ctypes.CDLL(None, use_errno=True).fallocate
+    take.argtypes = [ctypes.c_int, ctypes.c_int, ctypes.c_int64, ctypes.c_int64]
+    if take(file, KEEP_LENGTH, 0, length) != 0:
+        code = ctypes.get_errno()
+        if code not in (errno.EOPNOTSUPP, errno.ENOSYS):
+            raise OSError(code, os.strerror(code), path)
+
+
+def check_numbers(registers: Registers, workers: int, jobs: int) -> None:
+    """Raises ValueError if the registers are those of this module, and were made for other
+    numbers."""
+    if isinstance(registers, Words) and registers.numbers != (workers, jobs):
+        made = registers.numbers
+        raise ValueError(f"registers: they were made for {made[0]} workers and {made[1]} jobs; give"
+                         " these numbers, or other registers")
 
 
 def guard_by(path: str, flags: int, number: int, lock: Callable[[int], object]) -> Guard:
     """Returns the guard of a number by a lock on this file. The kernel drops the lock with the last
     process that has it."""
+    check_streams()
     file = os.open(path, flags | os.O_CLOEXEC, 0o600)
     try:
         lock(file)

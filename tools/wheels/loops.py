@@ -6,9 +6,14 @@
 
 from __future__ import annotations
 
+import copy
+import enum
 import multiprocessing
 import os
+import pickle
 import random
+import shutil
+import signal
 import subprocess
 import sys
 import tempfile
@@ -16,11 +21,23 @@ import threading
 import time
 import unittest
 from multiprocessing.shared_memory import SharedMemory
-from typing import Callable, List
+from typing import Any, Callable, List, Tuple
 
 sys.dont_write_bytecode = True
 
 import amo
+from amo import jobs as lists
+
+# Makes a shared memory, prints its name and the number of a child process, and waits with it.
+MAKER = """
+import os, signal, sys, amo
+from multiprocessing.shared_memory import SharedMemory
+memory = SharedMemory(create=True, size=amo.size(1, 3))
+child = os.fork()
+if child:
+    print(memory.name, child, flush=True)
+signal.pause()
+"""
 
 
 class Failing:
@@ -39,6 +56,29 @@ class Failing:
         if self.fails("store", place):
             raise OSError("the store fails")
         self.words[place] = value
+
+
+class Landing(amo.Memory):
+    """Registers that make a call once a store has landed: that of this value in this place."""
+
+    def __init__(self, place: int, value: int, call: Callable[[], object]):
+        super().__init__(1, 3)
+        self.landed, self.call = (place, value), call
+
+    def store(self, place: int, value: int) -> None:
+        super().store(place, value)
+        if (place, value) == self.landed:
+            self.call()
+
+
+class Number(int, enum.Enum):
+    """Numbers of workers, whose text isn't that of a number."""
+
+    ONE = 1
+
+
+def fail(*_: object) -> None:
+    raise TimeoutError("the reply is lost")
 
 
 def note(path: str, word: str, job: int) -> None:
@@ -77,10 +117,119 @@ class Loops(unittest.TestCase):
         worker = alone(amo.Memory(1, 3))
         first = iter(worker)
         self.assertEqual(next(first), 1)
-        self.assertEqual(list(worker), [2, 3])
+        with self.assertRaisesRegex(RuntimeError, "job 1 is in doubt"):
+            iter(worker)
+        self.assertEqual(worker.doubts, [1])
         with self.assertRaisesRegex(RuntimeError, "another loop"):
             next(first)
+        self.assertEqual(list(worker), [2, 3])
         self.assertEqual(worker.doubts, [1])
+
+    # place 2 has the count of claims, of which the second one is that of job 2
+
+    def test_a_claim_that_landed_and_is_no_doubt_before_the_next_loop(self) -> None:
+        worker = alone(Landing(2, 2, fail))
+        with self.assertRaises(TimeoutError):
+            list(worker)
+        self.assertEqual(worker.doubts, [2])
+        self.assertEqual(list(worker), [3])
+
+    def test_a_loop_that_records_a_claim_that_nobody_saw(self) -> None:
+        worker = alone(Landing(2, 2, fail))
+        with self.assertRaises(TimeoutError):
+            list(worker)
+        with self.assertRaisesRegex(RuntimeError, "job 2 is in doubt"):
+            list(worker)
+        self.assertEqual(worker.doubts, [2])
+        self.assertEqual(list(worker), [3])
+
+    def test_a_signal_that_leaves_no_doubt(self) -> None:
+        self.addCleanup(signal.signal, signal.SIGUSR1, signal.signal(signal.SIGUSR1, fail))
+        worker = alone(Landing(2, 2, lambda: signal.raise_signal(signal.SIGUSR1)))
+        with self.assertRaises(TimeoutError):
+            list(worker)
+        self.assertEqual(worker.doubts, [2])
+        self.assertEqual(list(worker), [3])
+
+    def test_a_kept_exception_that_leaves_no_doubt(self) -> None:
+        worker = alone(amo.Memory(1, 3))
+
+        def pay_all() -> None:
+            loop = iter(worker)  # the frame of a kept exception keeps it
+            for job in loop:
+                raise KeyError(job)
+
+        try:
+            pay_all()
+        except KeyError as error:
+            kept = error
+        with self.assertRaisesRegex(RuntimeError, "job 1 is in doubt"):
+            list(worker)
+        self.assertEqual(worker.doubts, [1])
+        self.assertEqual(list(worker), [2, 3])
+        self.assertEqual(kept.args, (1,))
+
+    def test_a_worker_that_is_closed_between_two_accesses(self) -> None:
+        seen: List[object] = []
+
+        def close(*_: object) -> None:
+            worker.close()
+            seen.append("closed")
+
+        self.addCleanup(signal.signal, signal.SIGTERM, signal.signal(signal.SIGTERM, close))
+        # place 3 has the record of job 1, after which the worker announces job 2
+        registers = Landing(3, 1, lambda: signal.raise_signal(signal.SIGTERM))
+        worker = alone(registers)
+        first_store = registers.store
+
+        def store(place: int, value: int) -> None:
+            seen.append(place)
+            first_store(place, value)
+
+        registers.store = store  # type: ignore[method-assign]
+        with self.assertRaisesRegex(RuntimeError, "signal handler"):
+            list(worker)
+        self.assertEqual(seen, [1, 2, 3])  # announced, claimed and recorded
+        self.assertEqual((worker.doubts, list(worker)), ([1], [2, 3]))
+
+    def test_a_signal_that_begins_a_loop_within_a_loop(self) -> None:
+        def begin(*_: object) -> None:
+            list(worker)
+
+        self.addCleanup(signal.signal, signal.SIGTERM, signal.signal(signal.SIGTERM, begin))
+        registers = amo.Memory(1, 3)
+        worker, first_load = alone(registers), registers.load
+
+        def load(place: int) -> int:
+            signal.raise_signal(signal.SIGTERM)
+            return first_load(place)
+
+        for job in worker:
+            break
+        registers.load = load  # type: ignore[method-assign]
+        with self.assertRaisesRegex(RuntimeError, "signal handler"):
+            iter(worker)
+        registers.load = first_load  # type: ignore[method-assign]
+        self.assertEqual((worker.doubts, list(worker)), ([1], [2, 3]))
+
+    def test_a_leave_before_the_loop_that_is_forgotten(self) -> None:
+        worker = alone(amo.Memory(1, 3))
+        worker.leave()
+        self.assertEqual(list(worker), [])
+        self.assertEqual((list(worker), worker.doubts), ([1, 2, 3], []))
+
+    def test_a_copy_that_performs_the_jobs_too(self) -> None:
+        worker = alone(amo.Memory(1, 3))
+        calls: List[Callable[[Any], object]] = [copy.copy, copy.deepcopy, pickle.dumps]
+        for call in calls:
+            with self.assertRaisesRegex(TypeError, "a copy would perform"):
+                call(worker)
+        self.assertEqual(list(worker), [1, 2, 3])
+
+    def test_an_answer_that_is_none(self) -> None:
+        doubt = lists.Doubt("1.1", 1, "rent 700 to Ada", None, None, None)
+        with self.assertRaisesRegex(TypeError, "it isn't an answer"):
+            lists.answer("no_such_list.txt", doubt, None)  # type: ignore[arg-type]
 
     def test_a_closed_worker_that_goes_on(self) -> None:
         worker = alone(amo.Memory(1, 3))
@@ -190,6 +339,20 @@ class Processes(unittest.TestCase):
         with open(self.path, encoding="ascii") as file:
             return [int(it.split()[1]) for it in file if it.split()[0] == word]
 
+    def test_a_shared_memory_that_is_kept_for_a_restart(self) -> None:
+        with subprocess.Popen([sys.executable, "-B", "-c", MAKER], text=True,
+                              stdout=subprocess.PIPE, stderr=subprocess.DEVNULL) as maker:
+            assert maker.stdout is not None
+            name, child = maker.stdout.readline().split()
+            maker.kill()
+        # the child may still work, so the memory is there
+        self.assertTrue(os.path.exists(f"/dev/shm/{name}"))
+        os.kill(int(child), signal.SIGKILL)
+        end = time.monotonic() + 60
+        while os.path.exists(f"/dev/shm/{name}") and time.monotonic() < end:
+            time.sleep(0.01)
+        self.assertFalse(os.path.exists(f"/dev/shm/{name}"))
+
     def test_a_kill_after_which_a_job_is_performed_twice(self) -> None:
         threads = [threading.Thread(target=self.live, args=(number, 4)) for number in (1, 2, 3)]
         for it in threads:
@@ -237,10 +400,22 @@ class Numbers(unittest.TestCase):
         worker = alone(first)
         with self.assertRaises(amo.Taken):
             alone(second)
-        # a mistake: another name of the file has locks of its own, so both would perform each job
+        # another name of the file has locks of its own, so both would perform each job
         os.link(self.path, f"{self.path}.other")
-        alone(amo.File(f"{self.path}.other", 1, 3)).close()
+        self.refuses(f"{self.path}.other", (1, 3), "it is missing")
         worker.close()
+
+    def test_a_number_that_two_workers_have_by_two_texts(self) -> None:
+        worker = alone(amo.File(self.path, 1, 3))
+        for number in (Number.ONE, True):
+            with self.assertRaises(amo.Taken):
+                amo.Worker(amo.File(self.path, 1, 3), number, 1, 3)
+        worker.close()
+        for number in ((1 << 64) + 1, -(1 << 64) + 1):  # a call of 64 bits takes each for 1
+            with self.assertRaisesRegex(ValueError, "no worker has it"):
+                amo.Worker(amo.File(self.path, 1, 3), number, 1, 3)
+        self.assertEqual(sorted(os.listdir(os.path.dirname(self.path))),
+                         ["words", "words.1", "words.boot"])
 
     def test_a_worker_that_does_not_wait(self) -> None:
         first = alone(amo.File(self.path, 1, 3))
@@ -268,18 +443,81 @@ class Numbers(unittest.TestCase):
             command.communicate()
         alone(amo.File(self.path, 1, 3)).close()
 
+    def refuses(self, path: str, numbers: Tuple[int, int], why: str) -> None:
+        """Has a file refused for these numbers of workers and jobs."""
+        with self.assertRaisesRegex(ValueError, why):
+            amo.File(path, *numbers)
+
     def test_a_file_of_another_run(self) -> None:
+        # 24 registers: 2 announcements, 2 claims and 2 rows of 10, or 3 of each and 3 rows of 6
+        self.assertEqual(amo.size(2, 9), amo.size(3, 5))
+        amo.File(self.path, 2, 9)
+        for numbers in ((3, 5), (2, 8)):
+            self.refuses(self.path, numbers, "its second line isn't")
+        with open(f"{self.path}.boot", "r+", encoding="ascii") as file:
+            file.truncate(len(file.readline()))
+        self.refuses(self.path, (2, 9), "its second line isn't `2 9`")
+
+    def test_a_file_that_was_cut(self) -> None:
         amo.File(self.path, 1, 3)
-        with self.assertRaises(ValueError):
-            amo.File(self.path, 1, 4)
+        os.truncate(self.path, 8)
+        self.refuses(self.path, (1, 3), "it has 8 bytes")
+
+    def test_other_numbers_than_those_of_the_registers(self) -> None:
+        for registers in (amo.Memory(2, 9), amo.File(self.path, 2, 9)):
+            for workers, jobs in ((1, 9), (2, 8), (3, 5)):
+                with self.assertRaisesRegex(ValueError, "2 workers and 9 jobs"):
+                    amo.Worker(registers, 1, workers, jobs)
+                with self.assertRaisesRegex(ValueError, "2 workers and 9 jobs"):
+                    amo.standing(registers, workers, jobs)
 
     def test_a_file_of_an_earlier_boot(self) -> None:
         amo.File(self.path, 1, 3)
         amo.File(self.path, 1, 3)
-        with open(f"{self.path}.boot", "w", encoding="ascii") as file:
-            file.write("00000000-0000-0000-0000-000000000000\n")
-        with self.assertRaisesRegex(ValueError, "earlier boot"):
+        for text in ("00000000-0000-0000-0000-000000000000\n1 3\n", ""):
+            with open(f"{self.path}.boot", "w", encoding="ascii") as file:
+                file.write(text)
+            self.refuses(self.path, (1, 3), "earlier boot")
+
+    def test_registers_without_their_note(self) -> None:
+        self.assertEqual(list(alone(amo.File(self.path, 1, 3))), [1, 2, 3])
+        shutil.copy(self.path, f"{self.path}.copy")
+        self.refuses(f"{self.path}.copy", (1, 3), "it is missing")
+        boot = f"{self.path}.boot"
+        os.rename(boot, f"{boot}.kept")
+        self.refuses(self.path, (1, 3), "it is missing")
+        os.symlink("nowhere", boot)
+        self.refuses(self.path, (1, 3), "it is missing")
+        os.unlink(boot)
+        os.symlink("words.boot", boot)  # a link to itself, which can't be looked at
+        with self.assertRaises(OSError):
             amo.File(self.path, 1, 3)
+        os.rename(f"{boot}.kept", boot)
+        self.assertEqual(list(alone(amo.File(self.path, 1, 3))), [])
+
+    def test_a_file_that_gets_the_number_of_a_standard_stream(self) -> None:
+        registers = amo.File(self.path, 1, 3)
+        calls: List[Callable[[], object]] = [lambda: amo.File(self.path, 1, 3),
+                                             lambda: alone(registers)]
+        child = os.fork()
+        if child == 0:
+            refused = 0
+            for stream in (0, 1, 2):
+                kept = os.dup(stream)
+                os.close(stream)
+                for call in calls:
+                    try:
+                        call()
+                    except OSError:
+                        refused += 1
+                os.dup2(kept, stream)
+            os._exit(refused)
+        self.assertEqual(os.waitstatus_to_exitcode(os.waitpid(child, 0)[1]), 3 * len(calls))
+
+    def test_registers_that_find_no_room_later(self) -> None:
+        amo.File(self.path, 16, 4096)
+        found = os.stat(self.path)
+        self.assertGreaterEqual(512 * found.st_blocks, found.st_size)
 
     def test_registers_that_are_gone_and_begin_anew(self) -> None:
         self.assertEqual(list(alone(amo.File(self.path, 1, 3))), [1, 2, 3])
