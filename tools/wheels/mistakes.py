@@ -1,0 +1,108 @@
+"""Mistakes of the Python module and the Rust crates, of which a test must find each. Begin with
+`found_of`."""
+
+from __future__ import annotations
+
+from contextlib import contextmanager
+from typing import Callable, Iterator, List, NamedTuple
+
+from trying import Wrong
+
+
+class Mistake(NamedTuple):
+    """A text of a file, another one in its place, and the test that must fail then."""
+
+    path: str
+    old: str
+    new: str
+    test: str
+
+
+LOOPS = "Loops.test_"
+NUMBERS = "Numbers.test_"
+# Files of the module `amo`, and tests of tools/wheels/loops.py.
+PYTHON = [Mistake(f"amo/{path}", old, new, test) for path, old, new, test in (
+    ("worker.py", "self._check_idle()\n            self._end", "self._end",
+     f"{LOOPS}a_worker_that_is_closed_between_two_accesses"),
+    ("worker.py", "self._check_idle()\n        if not self._guard", "if not self._guard",
+     f"{LOOPS}a_signal_that_begins_a_loop_within_a_loop"),
+    ("worker.py", "if self._is_unsure and self._may_begin():", "if False:",
+     f"{LOOPS}a_claim_that_landed_and_is_no_doubt_before_the_next_loop"),
+    ("worker.py", "if self._is_unsure and self._may_begin():", "if False:",
+     f"{LOOPS}a_signal_that_leaves_no_doubt"),
+    ("worker.py", "if len(self._doubts) > known:", "if False:",
+     f"{LOOPS}a_kept_exception_that_leaves_no_doubt"),
+    ("worker.py", "if len(self._doubts) > known:", "if False:",
+     f"{LOOPS}a_loop_that_records_a_claim_that_nobody_saw"),
+    ("worker.py", "self._is_new = False\n", "self._is_new = self._leaves = False\n",
+     f"{LOOPS}a_leave_before_the_loop_that_is_forgotten"),
+    ("worker.py", "def __reduce__", "def copied", f"{LOOPS}a_copy_that_performs_the_jobs_too"),
+    ("jobs.py", "if not isinstance(done, bool):", "if False:", f"{LOOPS}an_answer_that_is_none"),
+    ("worker.py", "self.number = whole(number)", "self.number = number",
+     f"{NUMBERS}a_number_that_two_workers_have_by_two_texts"),
+    ("library.py", "if not 0 <= worker < ABOVE:", "if False:",
+     f"{NUMBERS}a_number_that_two_workers_have_by_two_texts"),
+    ("registers.py", "        check_streams()\n        file", "        file",
+     f"{NUMBERS}a_file_that_gets_the_number_of_a_standard_stream"),
+    ("registers.py", "    check_streams()\n    file", "    file",
+     f"{NUMBERS}a_file_that_gets_the_number_of_a_standard_stream"),
+    ("registers.py", "        check_note(f", "        if os.path.exists(f\"{self._path}.boot\"):\n"
+     "            check_note(f", f"{NUMBERS}registers_without_their_note"),
+    ("registers.py", "if found != note:", "if False:", f"{NUMBERS}a_file_of_another_run"),
+    ("worker.py", "        check_numbers(registers, workers, jobs)\n        self._process",
+     "        self._process", f"{NUMBERS}other_numbers_than_those_of_the_registers"),
+    ("worker.py", "    check_numbers(registers, workers, jobs)\n    words", "    words",
+     f"{NUMBERS}other_numbers_than_those_of_the_registers"),
+    ("registers.py", "            take_room(self._path, file, length)", "            pass",
+     f"{NUMBERS}registers_that_find_no_room_later"),
+)]
+# Files of the crates, and tests of the crate `amo`: its file and its name.
+RUST = [Mistake(f"amo/src/{path}", old, new, test) for path, old, new, test in (
+    ("worker.rs", "(mem::take(&mut self.heard), ", "(self.heard.clone(), ",
+     "steps a_panic_after_which_a_job_is_performed_twice"),
+    ("worker.rs", "self.has_reported = false; // if `doubt` panics", "// if `doubt` panics",
+     "threads a_panic_that_loses_a_doubt"),
+    ("worker.rs", "self.check_process()?;\n        let mut", "let mut",
+     "processes a_child_process_that_goes_on"),
+    ("worker.rs", "worker.check_process()?;\n", "\n", "processes a_child_process_that_goes_on"),
+    ("file.rs", "    note.check()?;", "    if note.path.exists() {\n        note.check()?;\n    }",
+     "processes registers_without_their_note"),
+    ("file.rs", "if numbers == self.numbers.as_bytes()", "if !numbers.starts_with(b\"x\")",
+     "processes a_file_of_another_run"),
+    ("crew.rs", "if made != (workers, jobs)", "if made.0 == 0",
+     "processes a_crew_of_other_numbers_than_its_registers"),
+    ("file.rs", "amo_sys::take_room(file, length)?;", "",
+     "processes registers_that_find_no_room_later"),
+)]
+
+
+@contextmanager
+def planted(folder: str, mistake: Mistake) -> Iterator[None]:
+    """Has the mistake in a file of this folder meanwhile. Raises Wrong if its text isn't there."""
+    path = f"{folder}/{mistake.path}"
+    with open(path, encoding="utf-8") as file:
+        text = file.read()
+    if text.count(mistake.old) != 1:
+        raise Wrong(f"`{path}`: `{mistake.old}` must stand there once, to be made a mistake")
+    try:
+        write(path, text.replace(mistake.old, mistake.new))
+        yield
+    finally:
+        write(path, text)
+
+
+def write(path: str, text: str) -> None:
+    """Writes a file."""
+    with open(path, "w", encoding="utf-8") as file:
+        file.write(text)
+
+
+def found_of(folder: str, mistakes: List[Mistake], fails: Callable[[str], bool]) -> str:
+    """Plants each mistake into this folder, and has its test fail. Raises Wrong if a test passes.
+    `fails` runs a test, and returns whether it failed by what it found."""
+    for mistake in mistakes:
+        with planted(folder, mistake):
+            if not fails(mistake.test):
+                raise Wrong(f"`{mistake.path}`: `{mistake.test}` doesn't find"
+                            f" `{mistake.new.strip()}` in place of `{mistake.old.strip()}`")
+    return f"{len(mistakes)} found"
