@@ -4,17 +4,20 @@
      crew FILE JOBS WORKERS P
 
    works as worker P until that worker has ended. All processes of a crew are given the same FILE,
-   JOBS and WORKERS. FILE is made if it is missing. Put it on a local disk, and keep the files
-   beside it: FILE.boot, and a lock for each worker, such as FILE.1. If a process has died, start
-   another one with its number: it waits until the kernel has dropped the lock of the earlier one.
+   JOBS and WORKERS. FILE is made if it is missing. Put it on a local disk, in a folder that nobody
+   cleans, and keep the files beside it: FILE.boot, and a lock for each worker, such as FILE.1. If a
+   process has died, start another one with its number: it waits until the kernel has dropped the
+   lock of the earlier one.
 
-   FILE.boot names the boot of the machine. It is on the disk before FILE has registers. FILE is
-   refused if it belongs to an earlier boot, since stores may be lost. It is refused too if it is
-   missing or empty and FILE.boot is there, since new registers would hand out every job again.
-   Remove all these files once no process lives and no job is to come, and never before. A symbolic
-   link to FILE will do in its place. A hard link has locks of its own, so give none.
+   FILE.boot names the boot of the machine, and WORKERS and JOBS. It is on the disk before FILE has
+   registers. FILE is refused if it belongs to an earlier boot, since stores may be lost. It is
+   refused too if it is missing or empty and FILE.boot is there, since new registers would hand out
+   every job again. If FILE.boot is missing beside registers, they may be a copy, or a hard link,
+   which has locks of its own: that is refused. A symbolic link to FILE will do in its place. Remove
+   all these files once no process lives and no job is to come, and never before.
 
      cc -std=gnu11 -O2 crew.c libamo_c.a liblibc_c.a -o crew */
+#define _GNU_SOURCE /* for fallocate */
 #include "amo.h"
 #include <errno.h>
 #include <fcntl.h>
@@ -32,7 +35,7 @@
 _Static_assert(ATOMIC_LLONG_LOCK_FREE == 2,
                "an access of 64 bits must be one of the machine, since processes share the words");
 
-enum { BOOT_ROOM = 64 }; /* more than the text that names a boot */
+enum { NOTE_ROOM = 80 }; /* more than a text that names a boot and two numbers */
 
 static void fail(const char *what) {
   perror(what);
@@ -60,14 +63,22 @@ static void become_worker(const char *file, uint64_t p) {
     fail(path);
 }
 
-/* Reads the text that names a boot. */
-static void read_boot(const char *path, char boot[BOOT_ROOM]) {
+/* Reads a text that names a boot. */
+static void read_text(const char *path, char text[NOTE_ROOM]) {
   int file = open(path, O_RDONLY | O_CLOEXEC);
-  ssize_t length = file < 0 ? -1 : read(file, boot, BOOT_ROOM - 1);
+  ssize_t length = file < 0 ? -1 : read(file, text, NOTE_ROOM - 1);
   if (length < 0)
     fail(path);
-  boot[length] = 0;
+  text[length] = 0;
   close(file);
+}
+
+/* Writes the text of FILE.boot: a line for this boot, and one for the numbers of the crew. */
+static void describe(char note[NOTE_ROOM], const amo_givens_t *givens) {
+  read_text("/proc/sys/kernel/random/boot_id", note);
+  size_t length = strlen(note);
+  snprintf(note + length, NOTE_ROOM - length, "%llu %llu\n", (unsigned long long)givens->workers,
+           (unsigned long long)givens->jobs);
 }
 
 static void sync_and_close(int file, const char *path) {
@@ -75,68 +86,93 @@ static void sync_and_close(int file, const char *path) {
     fail(path);
 }
 
-/* Makes the file that names this boot, and has it on the disk when it returns. If the file exists,
-   registers were made, and are gone. */
-static void note_boot(const char *path, const char *boot) {
+/* Makes FILE.boot, and has it on the disk when it returns. If the file exists, registers were made,
+   and are gone. */
+static void make_note(const char *path, const char *text) {
   char named[PATH_MAX];
   int note = open(path, O_WRONLY | O_CREAT | O_EXCL | O_CLOEXEC, 0600);
   if (note < 0 && errno == EEXIST)
     refuse(path, "it shows that registers were made, and they are gone; perform no job of them "
                  "again, and use another path for other jobs");
-  if (note < 0 || write(note, boot, strlen(boot)) != (ssize_t)strlen(boot))
+  if (note < 0 || write(note, text, strlen(text)) != (ssize_t)strlen(text))
     fail(path);
   sync_and_close(note, path);
   const char *folder = dirname(strcpy(named, path)); /* a crash can lose a name that isn't synced */
   sync_and_close(open(folder, O_RDONLY | O_CLOEXEC), folder);
 }
 
-/* Refuses registers of an earlier boot. Without FILE.boot, which older copies of this program don't
-   make, nothing is compared. */
-static void check_boot(const char *path, const char *boot) {
-  char noted[BOOT_ROOM];
-  if (access(path, F_OK) != 0)
-    return;
-  read_boot(path, noted);
-  if (strcmp(noted, boot) != 0)
+/* Refuses registers without FILE.boot, and those of another boot or of other numbers. */
+static void check_note(const char *path, const char *text) {
+  char found[NOTE_ROOM];
+  if (access(path, F_OK) != 0 && errno == ENOENT)
+    refuse(path, "it is missing, so the registers may be a copy, or have another name; give the "
+                 "path by which they were made, or another path for other jobs");
+  read_text(path, found);
+  if (strncmp(found, text, strcspn(text, "\n") + 1) != 0)
     refuse(path, "the registers are of an earlier boot of the machine, so stores may be lost; "
                  "perform no job of them again, and use another path for other jobs");
+  if (strcmp(found, text) != 0)
+    refuse(path, "its second line isn't the WORKERS and JOBS that are given; give those of the "
+                 "crew that made it, or another path");
+}
+
+/* Takes room on the disk for the registers, if the file system can: a store without room would end
+   the process by SIGBUS. The file keeps its length. */
+static void take_room(int words, const char *file, off_t size) {
+  if (fallocate(words, FALLOC_FL_KEEP_SIZE, 0, size) != 0 && errno != EOPNOTSUPP && errno != ENOSYS)
+    fail(file);
 }
 
 /* Makes the registers of an empty file, which are all 0, or checks those of another one. */
-static void make_or_check(int words, const char *file, off_t size) {
-  char note[PATH_MAX], boot[BOOT_ROOM];
+static void make_or_check(int words, const char *file, const amo_givens_t *givens, off_t size) {
+  char path[PATH_MAX], note[NOTE_ROOM];
   struct stat found;
-  name_beside(note, file, "boot");
-  read_boot("/proc/sys/kernel/random/boot_id", boot);
+  name_beside(path, file, "boot");
+  describe(note, givens);
   if (fstat(words, &found) != 0)
     fail(file);
   if (found.st_size == 0) {
-    note_boot(note, boot);
+    take_room(words, file, size);
+    make_note(path, note);
     if (ftruncate(words, size) != 0)
       fail(file);
-  } else if (found.st_size != size) {
-    refuse(file, "it belongs to a crew with other numbers; give those, or another path");
   }
-  check_boot(note, boot);
+  check_note(path, note);
+  if (found.st_size != 0 && found.st_size != size)
+    refuse(file, "it doesn't have the length of its registers; perform no job of them again, and "
+                 "use another path for other jobs");
 }
 
-/* Opens the file of the registers, and writes its path, to which a link leads too. */
+/* Makes the file if it is missing, and opens it by the path to which PATH leads, which may be a
+   link. Writes that path, since the files beside it have its name. */
 static int open_words(const char *path, char file[PATH_MAX]) {
-  int words = open(path, O_RDWR | O_CREAT | O_CLOEXEC, 0600);
-  if (words < 0 || realpath(path, file) == NULL)
+  int made = open(path, O_RDWR | O_CREAT | O_CLOEXEC, 0600);
+  if (made < 0 || realpath(path, file) == NULL)
     fail(path);
+  int words = open(file, O_RDWR | O_CLOEXEC); /* the link may lead elsewhere by now */
+  if (words < 0 || close(made) != 0)
+    fail(file);
   return words;
 }
 
 /* Returns the registers, which processes share. */
-static _Atomic uint64_t *map_words(int words, const char *file, off_t size) {
+static _Atomic uint64_t *map_words(int words, const char *file, const amo_givens_t *givens) {
+  size_t size = amo_words(givens) * sizeof(uint64_t);
   if (flock(words, LOCK_EX) != 0) /* another process may make the registers too */
     fail(file);
-  make_or_check(words, file, size);
-  void *at = mmap(NULL, (size_t)size, PROT_READ | PROT_WRITE, MAP_SHARED, words, 0);
+  make_or_check(words, file, givens, (off_t)size);
+  void *at = mmap(NULL, size, PROT_READ | PROT_WRITE, MAP_SHARED, words, 0);
   if (at == MAP_FAILED || flock(words, LOCK_UN) != 0)
     fail(file);
   return at;
+}
+
+/* Refuses a closed standard stream. A file would get its number: then what is printed goes into the
+   registers, and a new stream drops the lock. */
+static void check_streams(void) {
+  for (int stream = STDIN_FILENO; stream <= STDERR_FILENO; stream++)
+    if (fcntl(stream, F_GETFD) < 0)
+      fail("a standard stream");
 }
 
 static void perform(uint32_t job) {
@@ -153,9 +189,10 @@ int main(int argc, char **argv) {
           stderr);
     return 2;
   }
+  check_streams();
   char file[PATH_MAX];
   int opened = open_words(argv[1], file);
-  _Atomic uint64_t *words = map_words(opened, file, (off_t)(amo_words(&givens) * sizeof *words));
+  _Atomic uint64_t *words = map_words(opened, file, &givens);
   become_worker(file, p);
   size_t len = 0, room = 0;
   uint64_t *heard = NULL;
@@ -168,8 +205,8 @@ int main(int argc, char **argv) {
       return code == AMO_OK ? 0 : fprintf(stderr, "code %u\n", code) != 0;
     if (next.perform != 0)
       perform(next.perform);
-    if (next.doubt != 0)
-      fprintf(stderr, "job %u is in doubt\n", next.doubt);
+    if (next.doubt != 0 && fprintf(stderr, "job %u is in doubt\n", next.doubt) < 0)
+      return 1; /* the job isn't recorded, so the next process reports it */
     heard[len++] = next.access == AMO_LOAD ? atomic_load(&words[next.word]) : 0;
     if (next.access == AMO_STORE)
       atomic_store(&words[next.word], next.value);

@@ -1,13 +1,13 @@
 #!/usr/bin/env python3
-"""Shows that an example program refuses registers that are gone, or of an earlier boot, and that
-two of them wait for each other.
+"""Shows that an example program refuses registers that are gone, copied, of an earlier boot or of
+other numbers, and that two of them wait for each other.
 
-  boot.py FOLDER KILLER CREW OTHER [CHECK]
+  boot.py FOLDER LIBRARIES CREW OTHER [CHECK]
 
 CREW is crew, and OTHER another example that may share its file, such as examples/python/crew.py.
-Each is given FILE JOBS WORKERS P. KILLER is tools/kill_after.c, built as a shared library. The
-files lie in FOLDER. With CHECK, which names a function here, CREW has a mistake, and that check
-must find it.
+Each is given FILE JOBS WORKERS P. The folder LIBRARIES has tools/kill_after.c and tools/c/relink.c,
+built as shared libraries. The files lie in FOLDER. With CHECK, which names a function here, CREW
+has a mistake, and that check must find it.
 
 The last line has the number of checks; the status is 0 if all was so.
 """
@@ -26,6 +26,7 @@ from typing import Callable, Dict, List, Optional, Tuple
 ALL = [1, 2, 3]  # one worker alone performs all 3 jobs
 REAL = "/proc/sys/kernel/random/boot_id"
 EARLIER = "00000000-0000-0000-0000-000000000000\n"
+NUMBERS = "1 3\n"  # 1 worker and 3 jobs, in the second line of FILE.boot
 LONGEST = 120  # seconds that a process may take
 
 
@@ -41,27 +42,37 @@ def want(so: object, what: str) -> None:
 class Room:
     """The folder, the programs, and the files of one check."""
 
-    def __init__(self, folder: str, killer: str, crew: str, other: str):
+    def __init__(self, folder: str, libraries: str, crew: str, other: str):
         os.makedirs(folder)
-        self.folder, self.killer, self.crew, self.other = folder, killer, crew, other
+        self.folder, self.crew, self.other = folder, crew, other
+        self.killer, self.relink = f"{libraries}/kill_after.so", f"{libraries}/relink.so"
         self.file = f"{folder}/words"
         self.boot = f"{self.file}.boot"
 
-    def words(self, program: str, file: str = "") -> List[str]:
-        return [*shlex.split(program), file or self.file, "3", "1", "1"]
+    def words(self, program: str, file: str = "", jobs: int = 3, workers: int = 1) -> List[str]:
+        return [*shlex.split(program), file or self.file, str(jobs), str(workers), "1"]
 
-    def run(self, program: str, file: str = "", **more: str) -> Tuple[int, List[int], str]:
-        """Runs a program as the only worker of 3 jobs. Returns its status, the jobs that it has
-        performed, and what it printed on standard error."""
-        ran = subprocess.run(self.words(program, file), stdin=subprocess.DEVNULL, timeout=LONGEST,
-                             capture_output=True, text=True, env={**os.environ, **more})
+    def run(self, program: str, file: str = "", jobs: int = 3, workers: int = 1,
+            **more: str) -> Tuple[int, List[int], str]:
+        """Runs a program as worker 1, the only one of 3 jobs if nothing else is given. Returns its
+        status, the jobs that it has performed, and what it printed on standard error."""
+        ran = subprocess.run(self.words(program, file, jobs, workers), stdin=subprocess.DEVNULL,
+                             timeout=LONGEST, capture_output=True, text=True,
+                             env={**os.environ, **more})
         return ran.returncode, [int(it.split()[1]) for it in ran.stdout.splitlines()], ran.stderr
 
-    def refuses(self, program: str, why: str, file: str = "") -> None:
+    def run_in_shell(self, program: str, streams: str) -> int:
+        """Runs a program with other standard streams, such as `<&-`. Returns its status."""
+        words = ["bash", "-c", f'exec "$@" {streams}', "bash", *self.words(program)]
+        return subprocess.run(words, stdin=subprocess.DEVNULL, timeout=LONGEST,
+                              capture_output=True).returncode
+
+    def refuses(self, program: str, why: str, file: str = "", jobs: int = 3,
+                workers: int = 1) -> None:
         """Has a program refuse the registers, and perform no job."""
-        status, jobs, said = self.run(program, file)
-        want(status not in (0, -9) and not jobs and why in said,
-             f"{program}: status {status}, jobs {jobs}, `{why}` isn't in: {said}")
+        status, performed, said = self.run(program, file, jobs, workers)
+        want(status not in (0, -9) and not performed and why in said,
+             f"{program}: status {status}, jobs {performed}, `{why}` isn't in: {said}")
 
     def performs(self, program: str, jobs: List[int], file: str = "") -> None:
         """Has a program perform these jobs."""
@@ -70,8 +81,8 @@ class Room:
 
 
 def gone(room: Room) -> None:
-    """Registers that are gone are refused. Without FILE.boot, which is a wrong use, each job is
-    performed again."""
+    """Registers that are gone are refused. If FILE.boot is gone too, which is a wrong use, each job
+    is performed again."""
     room.performs(room.crew, ALL)
     os.unlink(room.file)
     for program in (room.crew, room.crew, room.other):  # the first one leaves an empty file
@@ -90,15 +101,85 @@ def gone_for_another(room: Room) -> None:
 def earlier_boot(room: Room) -> None:
     """Registers of an earlier boot are refused, and those of this boot are gone on with."""
     room.performs(room.crew, ALL)
-    for text in (EARLIER, ""):
+    for text in (EARLIER, f"{EARLIER}{NUMBERS}", ""):
         with open(room.boot, "w", encoding="ascii") as file:
             file.write(text)
         for program in (room.crew, room.other):
             room.refuses(program, "of an earlier boot")
     with open(room.boot, "w", encoding="ascii") as file, open(REAL, encoding="ascii") as real:
-        file.write(real.read())
+        file.write(real.read() + NUMBERS)
     for program in (room.crew, room.other):
         room.performs(program, [])
+
+
+def without_note(room: Room) -> None:
+    """Registers beside which FILE.boot is missing are refused: a copy, a hard link, and those whose
+    FILE.boot was moved away."""
+    room.performs(room.crew, ALL)
+    shutil.copy(room.file, f"{room.file}.copy")
+    os.link(room.file, f"{room.file}.hard")
+    for file in (f"{room.file}.copy", f"{room.file}.hard"):
+        for program in (room.crew, room.other):
+            room.refuses(program, "it is missing", file)
+    os.rename(room.boot, f"{room.boot}.kept")
+    room.refuses(room.crew, "it is missing")
+    os.symlink("nowhere", room.boot)
+    room.refuses(room.crew, "it is missing")
+    os.unlink(room.boot)
+    os.symlink("words.boot", room.boot)  # a link to itself, which can't be looked at
+    room.refuses(room.crew, room.boot)
+    os.rename(f"{room.boot}.kept", room.boot)
+    room.performs(room.crew, [])
+
+
+def other_numbers(room: Room) -> None:
+    """Registers of other numbers are refused, also if they are as many."""
+    # 24 words: 2 announcements, 2 claims and 2 rows of 10, or 3 of each and 3 rows of 6
+    want(room.run(room.crew, jobs=9, workers=2)[0] == 0, "it doesn't perform 9 jobs of 2 workers")
+    for program in (room.crew, room.other):
+        room.refuses(program, "its second line isn't", jobs=5, workers=3)
+    with open(room.boot, "r+", encoding="ascii") as file:
+        file.truncate(len(file.readline()))
+    for program in (room.crew, room.other):
+        room.refuses(program, "its second line isn't", jobs=9, workers=2)
+
+
+def closed_stream(room: Room) -> None:
+    """While a standard stream is closed, no file is opened, which would get its number."""
+    for program in (room.crew, room.other):
+        for streams in ("<&-", ">&-", "2>&-"):
+            status = room.run_in_shell(program, streams)
+            want(status not in (0, -9) and not os.path.exists(room.boot),
+                 f"{program} {streams}: status {status}")
+    room.performs(room.crew, ALL)
+
+
+def unprinted_doubt(room: Room) -> None:
+    """A doubt that can't be printed isn't recorded, so the next process reports it."""
+    want(room.run_in_shell(room.crew, ">/dev/full") == 1, "it takes a job for written")
+    for program in (room.crew, room.other):
+        want(room.run_in_shell(program, "2>/dev/full") == 1,
+             f"{program}: it goes on without its report")
+    found = room.run(room.crew)
+    want(found == (0, [2, 3], "job 1 is in doubt\n"), f"it prints {found}")
+
+
+def relinked(room: Room) -> None:
+    """If a link leads elsewhere while it is resolved, registers and locks are those of one file."""
+    one, two, link = (f"{room.file}.{it}" for it in ("one", "two", "link"))
+    room.performs(room.crew, ALL, one)
+    room.run(room.crew, two, LD_PRELOAD=room.killer, KILLED_AFTER="4")  # the registers are made
+    os.symlink("words.one", link)
+    found = room.run(room.crew, link, LD_PRELOAD=room.relink, RELINKED=link, TARGET="words.two")
+    want(found[:2] == (0, ALL) and os.path.exists(f"{two}.1"),
+         f"{found}; it must perform the jobs of the second file, by the lock of that file")
+
+
+def without_room(room: Room) -> None:
+    """The registers have room on the disk once they are made, before the first store."""
+    room.run(room.crew, LD_PRELOAD=room.killer, KILLED_AFTER="4")
+    found = os.stat(room.file)
+    want(0 < found.st_size <= 512 * found.st_blocks, f"{found.st_blocks} blocks have room")
 
 
 def noted_first(room: Room) -> None:
@@ -174,8 +255,9 @@ def await_wait(program: subprocess.Popen[str]) -> bool:
 
 
 CHECKS: Dict[str, Callable[[Room], None]] = {
-    it.__name__: it for it in (gone, gone_for_another, earlier_boot, noted_first, stopped_between,
-                               made_by_two, one_number)}
+    it.__name__: it for it in (gone, gone_for_another, earlier_boot, without_note, other_numbers,
+                               noted_first, stopped_between, made_by_two, one_number,
+                               closed_stream, unprinted_doubt, relinked, without_room)}
 
 
 def mistake_of(check: Callable[[Room], None], room: Room) -> Optional[Wrong]:
@@ -187,13 +269,13 @@ def mistake_of(check: Callable[[Room], None], room: Room) -> Optional[Wrong]:
     return None
 
 
-def main(folder: str, killer: str, crew: str, other: str, planted: str = "") -> int:
+def main(folder: str, libraries: str, crew: str, other: str, planted: str = "") -> int:
     if planted:
-        found = mistake_of(CHECKS[planted], Room(f"{folder}/{planted}", killer, crew, other))
+        found = mistake_of(CHECKS[planted], Room(f"{folder}/{planted}", libraries, crew, other))
         print(f"found: {found}" if found else f"{planted}: the mistake isn't found")
         return int(not found)
     for name, check in CHECKS.items():
-        found = mistake_of(check, Room(f"{folder}/{name}", killer, crew, other))
+        found = mistake_of(check, Room(f"{folder}/{name}", libraries, crew, other))
         if found:
             print(f"{name}: {found}")
             return 1
