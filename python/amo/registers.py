@@ -46,8 +46,7 @@ class Registers(Protocol):
 
         It may raise an exception, whether the value was stored or not. **A store that fails must
         never land after it returned**, as a request over a network may. The worker reads the
-        register anew, and a store that lands later than that may lead to a job that is performed
-        twice."""
+        register anew. If a store lands later than that, a job may be performed twice."""
         ...
 
 
@@ -188,22 +187,22 @@ class File(Words):
     >>> registers.load(1)
     0
 
-    Choose a file on a local disk, in a folder that nobody cleans. Each worker has a lock on a file
-    beside it, `PATH.NUMBER`. `PATH.boot` has the boot of the machine, and the numbers of workers
+    Choose a file on a local disk, in a folder that nobody cleans. For each worker there is a lock
+    on the file `PATH.NUMBER`. `PATH.boot` has the boot of the machine, and the numbers of workers
     and jobs. **Keep these files together**: if all are gone, every job is handed out again. Remove
     all of them once no worker lives and no job is to come. A program in C or Rust may share the
     file: examples/c/crew.c does.
 
     Once the machine was started anew, the file may lack stores, so it is refused. It is refused too
-    if it is missing or empty and `PATH.boot` is there, and if `PATH.boot` is missing beside it, as
-    beside a copy or a hard link. A file in /dev/shm or /tmp is lost with `PATH.boot`, so new
+    if it is missing or empty and `PATH.boot` is there. Registers without `PATH.boot`, such as a
+    copy or a hard link, are refused. A file in /dev/shm or /tmp is lost with `PATH.boot`, so new
     registers are made there, and every job is handed out again.
     """
 
     def __init__(self, path: Union[str, "os.PathLike[str]"], workers: int, jobs: int):
         """Raises ValueError if the file belongs to a run with other numbers or to an earlier boot
-        of the machine, if its registers are gone, or if `PATH.boot` is missing beside them; and
-        OSError, also if a standard stream is closed."""
+        of the machine, or if its registers or `PATH.boot` are gone. Raises OSError, also if a
+        standard stream is closed."""
         # a link, or another working folder later, leads to the same locks
         self._path, length = os.path.realpath(path), size(workers, jobs)
         check_streams()

@@ -14,15 +14,15 @@ const BOOT: &str = "/proc/sys/kernel/random/boot_id";
 
 /// Registers in a file that processes map into their memory.
 ///
-/// Choose a file on a local disk, in a folder that nobody cleans. Each worker has a lock on a file
-/// beside it, `PATH.NUMBER`, which the kernel drops once the worker's process is gone. `PATH.boot`
+/// Choose a file on a local disk, in a folder that nobody cleans. For each worker there is a lock
+/// on the file `PATH.NUMBER`, which the kernel drops once the worker's process is gone. `PATH.boot`
 /// has the boot of the machine, and the numbers of workers and jobs. **Keep these files together**:
 /// if all are gone, every job is handed out again. Remove all of them once no worker lives and no
 /// job is to come. Programs in C and in Python may share the file.
 ///
 /// Once the machine was started anew, the file may lack stores, so it is refused. It is refused too
-/// if it is missing or empty and `PATH.boot` is there, and if `PATH.boot` is missing beside it, as
-/// beside a copy or a hard link. A file in /dev/shm or /tmp is lost with `PATH.boot`, so new
+/// if it is missing or empty and `PATH.boot` is there. Registers without `PATH.boot`, such as a
+/// copy or a hard link, are refused. A file in /dev/shm or /tmp is lost with `PATH.boot`, so new
 /// registers are made there, and every job is handed out again.
 ///
 /// # Examples
@@ -51,9 +51,8 @@ impl MappedFile {
     ///
     /// # Errors
     ///
-    /// If a number breaks its limit, the file belongs to a run with other numbers or to an earlier
-    /// boot of the machine, its registers are gone, `PATH.boot` is missing beside them, or it can't
-    /// be opened.
+    /// If a number breaks its limit, or the file can't be opened. If it belongs to a run with other
+    /// numbers or to an earlier boot of the machine. If its registers or `PATH.boot` are gone.
     ///
     /// # Examples
     ///

@@ -60,8 +60,8 @@ pub trait Registers {
     /// # Errors
     ///
     /// Whatever keeps it from being stored. It may have been stored all the same. **A store that
-    /// fails must never land after it returned**: the worker reads the register anew, and a store
-    /// that lands later than that may lead to a job that is performed twice.
+    /// fails must never land after it returned.** The worker reads the register anew. If a store
+    /// lands later than that, a job may be performed twice.
     fn store(&self, place: usize, value: u64) -> io::Result<()>;
 
     /// Returns the numbers of workers and jobs for which these registers were made, if they know

@@ -187,8 +187,8 @@ impl<'a, R: Registers> Worker<'a, R> {
     ///
     /// # Errors
     ///
-    /// [`Fault::Damaged`], [`Fault::NoMemory`], [`Fault::OtherProcess`], and [`Fault::Registers`] if
-    /// an access fails: the worker begins again at the next step then.
+    /// [`Fault::Damaged`], [`Fault::NoMemory`], [`Fault::OtherProcess`], and [`Fault::Registers`]
+    /// if an access fails: the worker begins again at the next step then.
     ///
     /// # Examples
     ///
