@@ -2,6 +2,7 @@
 
 import io
 import os
+import re
 import subprocess
 import sys
 import tarfile
@@ -121,6 +122,53 @@ class Packed(Room):
     def test_a_missing_file_is_named(self):
         with self.assertRaisesRegex(FileNotFoundError, "it is missing; build it"):
             tree.gather(f"{self.room}/none", "kit", f"{self.room}/into")
+
+
+class Page(Room):
+    """The steps of docs/guide/install.md, whose blocks no other test runs."""
+
+    def setUp(self):
+        super().setUp()
+        with open(f"{package.ROOT}/docs/guide/install.md", encoding="utf-8") as file:
+            self.page = file.read()
+
+    def blocks(self, title):
+        """Returns the blocks of a section that aren't run."""
+        section = re.search(rf"^#+ {title}\n(.*?)(?=^## |\Z)", self.page, re.M | re.S)[1]
+        return re.findall(r"^ *```sh not run:[^\n]*\n(.*?)^ *```$", section, re.M | re.S)
+
+    def test_the_steps_for_a_unit_are_tried_in_a_root(self):
+        steps = "".join(self.blocks("A unit of systemd")).splitlines()
+        self.assertEqual(len(steps), 4)  # a user, two folders, an owner, and another command
+        with open(f"{package.ROOT}/tools/releases/in_root", encoding="utf-8") as file:
+            tried = file.read()
+        for step in steps:
+            self.assertIn(f"  {step.strip()}", tried)
+
+    def test_the_units_find_the_programs_of_an_unpacked_archive(self):
+        self.put("amo-1.0/amo_jobs", "a program")
+        os.makedirs(f"{self.room}/opt")
+        forms.make_archive(f"{self.room}/amo-1.0",
+                           f"{self.room}/amo-1.0-x86_64-linux.tar.gz", 1)
+        steps = next(it for it in self.blocks("Install") if "-C /opt" in it)
+        steps = steps.replace("VERSION", "1.0").replace("/opt", f"{self.room}/opt")
+        subprocess.run(["sh", "-euc", steps], cwd=self.room, check=True)
+        for name in ("payments", "payments@", "payments-watched"):
+            with open(f"{package.ROOT}/examples/systemd/{name}.service", encoding="utf-8") as file:
+                program = re.search(r"^ExecStart=(\S+)", file.read(), re.M)[1]
+            self.assertTrue(os.path.exists(f"{self.room}{program}"), program)
+
+    def test_the_sums_of_some_files_fit(self):
+        for name in ("one", "two"):
+            self.put(f"files/{name}", name)
+        tree.write_sums(f"{self.room}/files")
+        os.remove(f"{self.room}/files/one")
+        calls = [it.partition("&& ")[2] for it in self.blocks("Who made it")]
+        self.assertEqual(len(calls), 2)
+        for call in calls:
+            said = subprocess.run(["sh", "-c", call], cwd=f"{self.room}/files", check=True,
+                                  stdout=subprocess.PIPE, text=True).stdout
+            self.assertEqual(said, "two: OK\n")
 
 
 class Kept(Room):
