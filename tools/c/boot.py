@@ -134,7 +134,7 @@ def without_note(room: Room) -> None:
 
 def other_numbers(room: Room) -> None:
     """Registers of other numbers are refused, also if they are as many."""
-    # 24 words: 2 announcements, 2 claims and 2 rows of 10, or 3 of each and 3 rows of 6
+    # beside word 0: 2 announcements, 2 claims and 2 rows of 10, or 3 of each and 3 rows of 6
     want(room.run(room.crew, jobs=9, workers=2)[0] == 0, "it doesn't perform 9 jobs of 2 workers")
     for program in (room.crew, room.other):
         room.refuses(program, "its second line isn't", jobs=5, workers=3)

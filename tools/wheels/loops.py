@@ -449,7 +449,7 @@ class Numbers(unittest.TestCase):
             amo.File(path, *numbers)
 
     def test_a_file_of_another_run(self) -> None:
-        # 24 registers: 2 announcements, 2 claims and 2 rows of 10, or 3 of each and 3 rows of 6
+        # beside place 0: 2 announcements, 2 claims and 2 rows of 10, or 3 of each, 3 rows of 6
         self.assertEqual(amo.size(2, 9), amo.size(3, 5))
         amo.File(self.path, 2, 9)
         for numbers in ((3, 5), (2, 8)):

@@ -283,7 +283,7 @@ fn all_performed(path: &Path) -> Vec<u32> {
 fn a_file_of_another_run() {
     let folder = folder_of("other");
     let (path, note) = (folder.join("words"), folder.join("words.boot"));
-    // 24 words: 2 announcements, 2 claims and 2 rows of 10, or 3 of each and 3 rows of 6
+    // beside word 0: 2 announcements, 2 claims and 2 rows of 10, or 3 of each and 3 rows of 6
     assert_eq!(amo::words(2, 9).unwrap(), amo::words(3, 5).unwrap());
     MappedFile::open(&path, 2, 9).expect("a file");
     for numbers in [(3, 5), (2, 8)] {
