@@ -71,6 +71,8 @@ RUST = [Mistake(f"amo/src/{path}", old, new, test) for path, old, new, test in (
      "processes a_file_of_another_run"),
     ("crew.rs", "if made != (workers, jobs)", "if made.0 == 0",
      "processes a_crew_of_other_numbers_than_its_registers"),
+    ("file.rs", "let file = opened(&path)?; // by this path", "let file = _made; // by the link",
+     "processes a_link_that_leads_elsewhere_while_it_is_opened"),
     ("file.rs", "amo_sys::take_room(file, length)?;", "",
      "processes registers_that_find_no_room_later"),
 )]

@@ -61,7 +61,7 @@ impl MappedFile {
     /// ```
     pub fn open(path: impl AsRef<Path>, workers: u32, jobs: u32) -> Result<MappedFile, Fault> {
         let count = words(workers, jobs)?;
-        opened(path.as_ref())?; // makes a missing file, also at the end of a link
+        let _made = opened(path.as_ref())?; // a missing file, also at the end of a link
         let path = fs::canonicalize(path)?; // so that a link leads to the same locks
         let note = Note::of(&path, workers, jobs)?;
         let file = opened(&path)?; // by this path, since the link may lead elsewhere by now

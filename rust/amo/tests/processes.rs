@@ -8,6 +8,7 @@ use std::os::unix::fs::{symlink, MetadataExt};
 use std::os::unix::process::ExitStatusExt;
 use std::path::{Path, PathBuf};
 use std::process::{self, Command, ExitStatus};
+use std::sync::atomic::{AtomicBool, Ordering::SeqCst};
 use std::{env, thread, time::Duration};
 
 const WORKERS: u32 = 2;
@@ -324,6 +325,47 @@ fn registers_that_find_no_room_later() {
     MappedFile::open(folder.join("words"), 16, 4096).expect("a file");
     let found = fs::metadata(folder.join("words")).expect("the file");
     assert!(found.blocks() * 512 >= found.len(), "{}", found.blocks());
+    fs::remove_dir_all(&folder).expect("the folder");
+}
+
+#[test]
+fn a_link_that_leads_elsewhere_while_it_is_opened() {
+    let folder = folder_of("link");
+    for (name, mark) in [("one", 1), ("two", 2)] {
+        let file = MappedFile::open(folder.join(name), 1, 3).expect("a file");
+        file.store(1, mark).expect("a register");
+    }
+    let (link, next, ends) = (
+        folder.join("link"),
+        folder.join("next"),
+        AtomicBool::new(false),
+    );
+    symlink("one", &link).expect("a link");
+    thread::scope(|scope| {
+        scope.spawn(|| {
+            for name in ["two", "one"].iter().cycle() {
+                symlink(name, &next).expect("a link");
+                fs::rename(&next, &link).expect("a name");
+                if ends.load(SeqCst) {
+                    break;
+                }
+            }
+        });
+        for _ in 0..2000 {
+            let file = MappedFile::open(&link, 1, 3).expect("one of the two");
+            // the path, of which its locks have their names
+            let name = if format!("{file:?}").contains("/one\"") {
+                1
+            } else {
+                2
+            };
+            if file.load(1).expect("a register") != name {
+                ends.store(true, SeqCst);
+                panic!("registers of one file, and the locks of the other");
+            }
+        }
+        ends.store(true, SeqCst);
+    });
     fs::remove_dir_all(&folder).expect("the folder");
 }
 
