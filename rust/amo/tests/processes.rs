@@ -351,7 +351,7 @@ fn a_link_that_leads_elsewhere_while_it_is_opened() {
                 }
             }
         });
-        for _ in 0..2000 {
+        for _ in 0..10_000 {
             let file = MappedFile::open(&link, 1, 3).expect("one of the two");
             // the path, of which its locks have their names
             let name = if format!("{file:?}").contains("/one\"") {
