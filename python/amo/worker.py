@@ -118,6 +118,7 @@ class Worker:
         self._is_busy = self._is_unsure = False
         self._doubts: List[int] = []
         self._life: Optional[Life] = None
+        self._is_new = False  # true while no loop uses the life
         self._guard = guarded(registers, self.number, wait)
         try:
             self._begin()

@@ -48,17 +48,17 @@ class Room:
         self.killer, self.relink = f"{libraries}/kill_after.so", f"{libraries}/relink.so"
         self.file = f"{folder}/words"
         self.boot = f"{self.file}.boot"
+        self.jobs, self.workers = 3, 1
 
-    def words(self, program: str, file: str = "", jobs: int = 3, workers: int = 1) -> List[str]:
-        return [*shlex.split(program), file or self.file, str(jobs), str(workers), "1"]
+    def words(self, program: str, file: str = "") -> List[str]:
+        return [*shlex.split(program), file or self.file, str(self.jobs), str(self.workers), "1"]
 
-    def run(self, program: str, file: str = "", jobs: int = 3, workers: int = 1,
-            **more: str) -> Tuple[int, List[int], str]:
-        """Runs a program as worker 1, the only one of 3 jobs if nothing else is given. Returns its
-        status, the jobs that it has performed, and what it printed on standard error."""
-        ran = subprocess.run(self.words(program, file, jobs, workers), stdin=subprocess.DEVNULL,
-                             timeout=LONGEST, capture_output=True, text=True,
-                             env={**os.environ, **more})
+    def run(self, program: str, file: str = "", **more: str) -> Tuple[int, List[int], str]:
+        """Runs a program as worker 1, which is the only one of 3 jobs unless a check sets other
+        numbers. Returns its status, the jobs that it has performed, and what it printed on standard
+        error."""
+        ran = subprocess.run(self.words(program, file), stdin=subprocess.DEVNULL, timeout=LONGEST,
+                             capture_output=True, text=True, env={**os.environ, **more})
         return ran.returncode, [int(it.split()[1]) for it in ran.stdout.splitlines()], ran.stderr
 
     def run_in_shell(self, program: str, streams: str) -> int:
@@ -67,12 +67,11 @@ class Room:
         return subprocess.run(words, stdin=subprocess.DEVNULL, timeout=LONGEST,
                               capture_output=True).returncode
 
-    def refuses(self, program: str, why: str, file: str = "", jobs: int = 3,
-                workers: int = 1) -> None:
+    def refuses(self, program: str, why: str, file: str = "") -> None:
         """Has a program refuse the registers, and perform no job."""
-        status, performed, said = self.run(program, file, jobs, workers)
-        want(status not in (0, -9) and not performed and why in said,
-             f"{program}: status {status}, jobs {performed}, `{why}` isn't in: {said}")
+        status, jobs, said = self.run(program, file)
+        want(status not in (0, -9) and not jobs and why in said,
+             f"{program}: status {status}, jobs {jobs}, `{why}` isn't in: {said}")
 
     def performs(self, program: str, jobs: List[int], file: str = "") -> None:
         """Has a program perform these jobs."""
@@ -135,13 +134,16 @@ def without_note(room: Room) -> None:
 def other_numbers(room: Room) -> None:
     """Registers of other numbers are refused, also if they are as many."""
     # beside word 0: 2 announcements, 2 claims and 2 rows of 10, or 3 of each and 3 rows of 6
-    want(room.run(room.crew, jobs=9, workers=2)[0] == 0, "it doesn't perform 9 jobs of 2 workers")
+    room.jobs, room.workers = 9, 2
+    want(room.run(room.crew)[0] == 0, "it doesn't perform 9 jobs of 2 workers")
+    room.jobs, room.workers = 5, 3
     for program in (room.crew, room.other):
-        room.refuses(program, "its second line isn't", jobs=5, workers=3)
+        room.refuses(program, "its second line isn't")
+    room.jobs, room.workers = 9, 2
     with open(room.boot, "r+", encoding="ascii") as file:
         file.truncate(len(file.readline()))
     for program in (room.crew, room.other):
-        room.refuses(program, "its second line isn't", jobs=9, workers=2)
+        room.refuses(program, "its second line isn't")
 
 
 def closed_stream(room: Room) -> None:

@@ -186,7 +186,7 @@ class Loops(unittest.TestCase):
             seen.append(place)
             first_store(place, value)
 
-        registers.store = store  # type: ignore[method-assign]
+        setattr(registers, "store", store)
         with self.assertRaisesRegex(RuntimeError, "signal handler"):
             list(worker)
         self.assertEqual(seen, [1, 2, 3])  # announced, claimed and recorded
@@ -206,10 +206,10 @@ class Loops(unittest.TestCase):
 
         for job in worker:
             break
-        registers.load = load  # type: ignore[method-assign]
+        setattr(registers, "load", load)
         with self.assertRaisesRegex(RuntimeError, "signal handler"):
             iter(worker)
-        registers.load = first_load  # type: ignore[method-assign]
+        setattr(registers, "load", first_load)
         self.assertEqual((worker.doubts, list(worker)), ([1], [2, 3]))
 
     def test_a_leave_before_the_loop_that_is_forgotten(self) -> None:
