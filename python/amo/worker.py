@@ -4,7 +4,6 @@ from __future__ import annotations
 
 import os
 import threading
-from contextlib import contextmanager
 from typing import Iterator, List, NamedTuple, NoReturn, Optional
 
 from amo.library import BEGINNING, NOTHING, STORE, Heard, Item, Library, Next, whole
@@ -15,17 +14,23 @@ class Life:
     """The time of one process as a worker: what it has read, and the job in its hand."""
 
     def __init__(self, library: Library, registers: Registers, number: int):
-        """Begins, and loads the worker's own registers. `doubt` is the job that an earlier process
-        had in its hand, or 0."""
+        """Takes what it needs, and makes no access."""
         self.library, self.registers, self.number = library, registers, number
         self.heard, self.job = Heard(), 0
         self.items: List[Item] = []
+        self.is_new = False  # it has begun, and no loop uses it yet
+        self.is_busy = False  # a loop makes its accesses, which belong together
+        self.is_known = False  # `job` is in the hand, and no other one: no claim can have landed
+
+    def begin(self) -> int:
+        """Loads the worker's own registers. Returns the job that an earlier process, or an earlier
+        loop, had in its hand, or 0."""
         told = self._told()
         while told.phase == BEGINNING:
             self.carry_out()
             told = self._told()
-        self.doubt = int(told.doubt)
-        self.is_known = True  # `job` is in the hand, and no other one: no claim can have landed
+        self.is_new = self.is_known = True
+        return int(told.doubt)
 
     def _told(self) -> Next:
         told, self.items = self.library.batch(self.number, self.heard)
@@ -114,11 +119,9 @@ class Worker:
         self._library.next(self.number, Heard())  # which is refused if there is no such worker
         check_numbers(registers, workers, jobs)
         self._process, self._lock, self._leaves = os.getpid(), threading.RLock(), False
-        # under the lock: a call makes accesses; and the last loop may have left a job in the hand
-        self._is_busy = self._is_unsure = False
+        self._is_unsure = False  # the last loop may have left a job in the hand
         self._doubts: List[int] = []
-        self._life: Optional[Life] = None
-        self._is_new = False  # true while no loop uses the life
+        self._life: Optional[Life] = None  # the only one that makes accesses
         self._guard = guarded(registers, self.number, wait)
         try:
             self._begin()
@@ -136,7 +139,7 @@ class Worker:
         this asks them, and raises whatever they raise.
         """
         with self._lock:
-            if self._is_unsure and self._may_begin():
+            if self._is_unsure and self._guard.is_open and self._process == os.getpid():
                 self._begin()
             return list(self._doubts)
 
@@ -147,16 +150,17 @@ class Worker:
         the hand of an earlier loop. From then on `doubts` has it, and a loop can begin.
         """
         with self._lock:
-            self._check()
-            life = self._life if self._is_new else None
-            if life is None:
+            self._check_idle()
+            self._check_holder()
+            life = self._life
+            if life is None or not life.is_new:
                 known = len(self._doubts)
                 life = self._begin()
                 if len(self._doubts) > known:
                     raise RuntimeError(f"worker {self.number}: job {self._doubts[-1]} is in doubt,"
                                        " and `doubts` didn't have it before this loop; write it to"
                                        " a disk, and begin the loop again")
-            self._is_new = False
+            life.is_new = False
             return self._jobs(life)
 
     def leave(self) -> None:
@@ -204,59 +208,55 @@ class Worker:
     def _begin(self) -> Life:
         """Begins a life for the next loop. It finds out whether an earlier one has left a job in
         the hand."""
-        with self._accesses():
-            life = Life(self._library, self._registers, self.number)
-            self._add_doubt(life.doubt)
-            self._life, self._is_new, self._is_unsure = life, True, False
+        # in its place at once: if a signal handler begins another one meanwhile, this can't go on
+        self._life = life = Life(self._library, self._registers, self.number)
+        self._add_doubt(life.begin())
+        self._is_unsure = False
         return life
 
     def _jobs(self, life: Life) -> Iterator[int]:
         try:
-            while True:
-                with self._turn(life):
-                    if self._leaves and life.leave() or not life.ask():
-                        self._leaves = False
-                        return
+            while self._asked(life):
                 if life.job:
                     yield life.job
-                with self._turn(life):
-                    life.carry_out()
+                self._carry_out(life)
         finally:
-            self._end(life)
+            self._end(life)  # also if an exception came in the middle of accesses
 
-    @contextmanager
-    def _turn(self, life: Life) -> Iterator[None]:
-        """Keeps every other loop over this worker away meanwhile."""
+    def _asked(self, life: Life) -> bool:
+        """Finds out what is next. Returns False if the loop has ended."""
         with self._lock:
-            self._check()
-            if life is not self._life:
-                raise RuntimeError(f"worker {self.number}: another loop over it has begun; go on"
-                                   " with that one")
-            with self._accesses():
-                yield
+            self._enter(life)
+            goes_on = not (self._leaves and life.leave()) and life.ask()
+            if not goes_on:
+                self._leaves = False
+            life.is_busy = False
+            return goes_on
 
-    @contextmanager
-    def _accesses(self) -> Iterator[None]:
-        """Keeps signal handlers away meanwhile, which come in the middle under the same lock."""
-        try:
-            self._is_busy = True
-            yield
-        finally:
-            self._is_busy = False
+    def _carry_out(self, life: Life) -> None:
+        """Makes the accesses that come next."""
+        with self._lock:
+            self._enter(life)
+            life.carry_out()
+            life.is_busy = False
 
-    def _may_begin(self) -> bool:
-        """Returns whether this process holds the number, and makes no access now."""
-        return not self._is_busy and self._guard.is_open and self._process == os.getpid()
+    def _enter(self, life: Life) -> None:
+        """Keeps signal handlers away from the accesses that follow. Raises RuntimeError if another
+        loop has begun, or the worker can't be used."""
+        life.is_busy = True  # first of all, since a handler may come between these lines
+        self._check_holder()
+        if life is not self._life:
+            raise RuntimeError(f"worker {self.number}: another loop over it has begun; go on with"
+                               " that one")
 
     def _check_idle(self) -> None:
-        """Raises RuntimeError if a call makes accesses, in which a signal handler came."""
-        if self._is_busy:
+        """Raises RuntimeError if a loop makes its accesses, in which a signal handler came."""
+        if self._life and self._life.is_busy:
             raise RuntimeError(f"worker {self.number}: a signal handler uses it in the middle of an"
                                " access; call leave() there, or raise an exception")
 
-    def _check(self) -> None:
-        """Raises RuntimeError if this worker can't be used now, or here."""
-        self._check_idle()
+    def _check_holder(self) -> None:
+        """Raises RuntimeError if this process doesn't hold the number."""
         if not self._guard.is_open:
             raise RuntimeError(f"worker {self.number}: it is closed; make another Worker")
         if self._process != os.getpid():

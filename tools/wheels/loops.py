@@ -19,9 +19,10 @@ import sys
 import tempfile
 import threading
 import time
+import types
 import unittest
 from multiprocessing.shared_memory import SharedMemory
-from typing import Any, Callable, List, Tuple
+from typing import Any, Callable, List, Optional, Tuple
 
 sys.dont_write_bytecode = True
 
@@ -192,25 +193,27 @@ class Loops(unittest.TestCase):
         self.assertEqual(seen, [1, 2, 3])  # announced, claimed and recorded
         self.assertEqual((worker.doubts, list(worker)), ([1], [2, 3]))
 
-    def test_a_signal_that_begins_a_loop_within_a_loop(self) -> None:
+    def test_a_signal_that_begins_a_loop_as_another_begins(self) -> None:
+        performed: List[int] = []
+
         def begin(*_: object) -> None:
-            list(worker)
+            performed.extend(worker)
 
         self.addCleanup(signal.signal, signal.SIGTERM, signal.signal(signal.SIGTERM, begin))
         registers = amo.Memory(1, 3)
         worker, first_load = alone(registers), registers.load
 
         def load(place: int) -> int:
+            setattr(registers, "load", first_load)
             signal.raise_signal(signal.SIGTERM)
             return first_load(place)
 
         for job in worker:
             break
         setattr(registers, "load", load)
-        with self.assertRaisesRegex(RuntimeError, "signal handler"):
-            iter(worker)
-        setattr(registers, "load", first_load)
-        self.assertEqual((worker.doubts, list(worker)), ([1], [2, 3]))
+        with self.assertRaisesRegex(RuntimeError, "another loop"):
+            list(worker)
+        self.assertEqual((worker.doubts, performed), ([1], [2, 3]))
 
     def test_a_leave_before_the_loop_that_is_forgotten(self) -> None:
         worker = alone(amo.Memory(1, 3))
@@ -311,6 +314,101 @@ class Loops(unittest.TestCase):
         self.assertEqual(sorted(performed), amo.standing(registers, 4, 200).recorded)
         self.assertEqual(len(set(performed)), len(performed))
         self.assertGreaterEqual(len(performed), amo.bound(4, 200))
+
+
+class Watched:
+    """Registers of 3 jobs that note whether a worker stores once its part is over."""
+
+    def __init__(self) -> None:
+        self.registers, self.is_over, self.has_stored = amo.Memory(1, 3), False, False
+        self.load, self.guard = self.registers.load, self.registers.guard
+
+    def store(self, place: int, value: int) -> None:
+        self.has_stored |= self.is_over
+        self.registers.store(place, value)
+
+
+class AtLine:
+    """Makes a call at a line of worker.py: that of this number, counted as the lines are run."""
+
+    def __init__(self, number: int, call: Callable[[], object]):
+        self.left, self.call = number, call
+
+    def __call__(self, frame: types.FrameType, event: str, _: object) -> Optional[AtLine]:
+        if frame.f_code.co_filename != sys.modules["amo.worker"].__file__:
+            return None
+        if event == "line":
+            self.left -= 1
+            if self.left == 0:
+                sys.settrace(None)
+                self.call()
+        return self
+
+
+class Interrupts(unittest.TestCase):
+    """Signal handlers that come at each line of worker.py in turn."""
+
+    def work(self, number: int, handler: Callable[[], object]) -> bool:
+        """Performs all jobs, with a handler at the line of this number. Returns whether there is
+        one."""
+        self.registers = Watched()
+        self.worker = alone(self.registers)
+        self.performed: List[int] = []
+        self.written: List[int] = []
+        line = AtLine(number, handler)
+        for _ in range(3):
+            try:
+                sys.settrace(line)
+                self.written += self.worker.doubts
+                for job in self.worker:
+                    self.performed.append(job)
+                break
+            except (TimeoutError, RuntimeError):
+                if self.registers.is_over:
+                    self.worker.close()
+                    self.worker = alone(self.registers.registers)
+            finally:
+                sys.settrace(None)
+        self.worker.close()
+        return line.left <= 0
+
+    def at_each_line(self, handler: Callable[[], object]) -> None:
+        """Has the handler come at each line in turn. No job may be performed twice. Each recorded
+        one must be performed, or written down before the loop that recorded it."""
+        number = 1
+        while self.work(number, handler):
+            standing = amo.standing(self.registers.registers, 1, 3)
+            self.assertEqual(len(set(self.performed)), len(self.performed), f"line {number}")
+            self.assertLessEqual(set(standing.recorded), {*self.performed, *self.written},
+                                 f"line {number}")
+            self.assertFalse(self.registers.has_stored, f"line {number}: its accesses go on")
+            number += 1
+        self.assertEqual((self.performed, self.written), ([1, 2, 3], []))
+        self.assertGreater(number, 200)  # 9 accesses, each of some lines, and 4 batches for a job
+
+    def test_an_exception_after_which_a_doubt_is_unknown(self) -> None:
+        self.at_each_line(fail)
+
+    def test_a_close_after_which_two_have_one_number(self) -> None:
+        def close() -> None:
+            self.worker.close()
+            self.registers.is_over = True
+            with alone(self.registers.registers) as worker:
+                self.written += worker.doubts
+                for job in worker:
+                    self.performed.append(job)
+                    break
+
+        self.at_each_line(close)
+
+    def test_a_loop_within_a_loop(self) -> None:
+        def begin() -> None:
+            self.written += self.worker.doubts
+            for job in self.worker:
+                self.performed.append(job)
+            self.registers.is_over = True  # this loop has performed all jobs that were left
+
+        self.at_each_line(begin)
 
 
 class Processes(unittest.TestCase):

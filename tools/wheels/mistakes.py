@@ -19,22 +19,34 @@ class Mistake(NamedTuple):
 
 
 LOOPS = "Loops.test_"
+INTERRUPTS = "Interrupts.test_"
 NUMBERS = "Numbers.test_"
 # Files of the module `amo`, and tests of tools/wheels/loops.py.
 PYTHON = [Mistake(f"amo/{path}", old, new, test) for path, old, new, test in (
     ("worker.py", "self._check_idle()\n            self._end", "self._end",
      f"{LOOPS}a_worker_that_is_closed_between_two_accesses"),
-    ("worker.py", "self._check_idle()\n        if not self._guard", "if not self._guard",
-     f"{LOOPS}a_signal_that_begins_a_loop_within_a_loop"),
-    ("worker.py", "if self._is_unsure and self._may_begin():", "if False:",
+    ("worker.py", "self._check_idle()\n            self._check_holder", "self._check_holder",
+     f"{INTERRUPTS}a_loop_within_a_loop"),
+    ("worker.py", "self._life = life = Life(self._library, self._registers, self.number)\n"
+     "        self._add_doubt(life.begin())", "life = Life(self._library, self._registers,"
+     " self.number)\n        self._add_doubt(life.begin())\n        self._life = life",
+     f"{LOOPS}a_signal_that_begins_a_loop_as_another_begins"),
+    ("worker.py", "        life.is_busy = True  # first of all, since a handler may come between"
+     " these lines\n        self._check_holder()\n        if life is not self._life:",
+     "        self._check_holder()\n        if life is self._life:\n"
+     "            life.is_busy = True\n        else:",
+     f"{INTERRUPTS}a_close_after_which_two_have_one_number"),
+    ("worker.py", "self._add_doubt(life.begin())", "life.begin()",
+     f"{INTERRUPTS}an_exception_after_which_a_doubt_is_unknown"),
+    ("worker.py", "if self._is_unsure and", "if False and",
      f"{LOOPS}a_claim_that_landed_and_is_no_doubt_before_the_next_loop"),
-    ("worker.py", "if self._is_unsure and self._may_begin():", "if False:",
+    ("worker.py", "if self._is_unsure and", "if False and",
      f"{LOOPS}a_signal_that_leaves_no_doubt"),
     ("worker.py", "if len(self._doubts) > known:", "if False:",
      f"{LOOPS}a_kept_exception_that_leaves_no_doubt"),
     ("worker.py", "if len(self._doubts) > known:", "if False:",
      f"{LOOPS}a_loop_that_records_a_claim_that_nobody_saw"),
-    ("worker.py", "self._is_new = False\n", "self._is_new = self._leaves = False\n",
+    ("worker.py", "life.is_new = False\n", "life.is_new = self._leaves = False\n",
      f"{LOOPS}a_leave_before_the_loop_that_is_forgotten"),
     ("worker.py", "def __reduce__", "def copied", f"{LOOPS}a_copy_that_performs_the_jobs_too"),
     ("jobs.py", "if not isinstance(done, bool):", "if False:", f"{LOOPS}an_answer_that_is_none"),
