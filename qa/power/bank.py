@@ -18,6 +18,7 @@ KILLED = {71, 137}  # a crew or a command that was killed, or whose amo_worker w
 FAULTY = {73, 74, 125}  # a file can't be written or read, as on a disk that fails
 MOST_FAULTY = 3  # crews that end so in one boot; then the file system takes nothing any more
 TO_WAIT = 75
+TORN_COMMIT = re.compile(r"journal transaction \d+ on \S+ is corrupt")
 OF_PROCESSES = "begin before after receives replies gone".split()
 CALLS = [*OF_PROCESSES, "starts", "started", "ended"]  # how lines of the log of calls begin
 BOOT_STEP = 1_000_000  # processes of boot N get numbers from N times this one on
@@ -62,7 +63,7 @@ class Bank:
         self.boot, self.dangers, self.is_first_look = 0, Dangers(), True
         self.allowed, self.faulty = CREW_ENDS, 0
         self.last: Optional[dict] = None  # how the lines stood last
-        self.is_over = self.is_stuck = self.is_refused = False
+        self.is_over = self.is_stuck = self.is_refused = self.needs_fsck = False
 
     def wrong(self, kind: str, text: str) -> None:
         self.wrongs.append(f"{kind}: boot {self.boot}: {text}")
@@ -182,7 +183,8 @@ class Bank:
             self.wrong("forget", rest)
 
     def take_refused(self, rest: str) -> None:
-        """The program refuses to show how the lines stand, or the kernel to mount the disk."""
+        """The program refuses to show how the lines stand, or the kernel to mount the disk: ext4 does
+        so if the cut has torn the last block of a commit, and e2fsck mends it."""
         if self.dangers.has_kills and rest.startswith("status 137"):
             self.counts["looks that were killed"] += 1
         elif self.allowed >= FAULTY and re.match("status 7[34]", rest):
@@ -190,6 +192,9 @@ class Bank:
         elif self.dangers.fails and rest.startswith("mount"):  # the next boot must mount it
             self.counts["mounts that failed"] += 1
             self.is_stuck = True
+        elif rest.startswith("mount") and TORN_COMMIT.search(rest):
+            self.counts["mounts that need e2fsck"] += 1
+            self.is_stuck = self.needs_fsck = True
         else:
             self.is_refused = True
             self.wrong("refused", rest)

@@ -172,6 +172,15 @@ class Run:
             if any(it in line.lower() for it in TROUBLE):
                 self.note(f"-- console: {line}")
         self.log += disk.log if self.keeps_log else []
+        if self.bank.needs_fsck:
+            self.mend()
+
+    def mend(self) -> None:
+        """Has e2fsck mend the disk, as a person has to. No log has what it writes."""
+        self.bank.needs_fsck = self.keeps_log = False
+        ran = subprocess.run(["e2fsck", "-y", self.path], stdout=subprocess.PIPE, check=False)
+        if ran.returncode > 1:
+            self.bank.wrong("e2fsck", ran.stdout.decode())
 
     def wait(self, machine: Machine, watch: Watch) -> None:
         """Lets the guest run to its moment."""

@@ -1,8 +1,7 @@
 """A disk with a volatile write cache, which qemu reaches by the protocol of NBD.
 
 A cut may lose the writes that the guest hasn't flushed: all of them, none, or any of their sectors.
-Each write and each flush stands in a log. `states.py` makes further disks of it that a cut may
-leave.
+Each write and each flush stands in a log, of which `states.py` makes further disks.
 """
 
 from __future__ import annotations

@@ -1,8 +1,5 @@
-"""A guest in qemu, whose power is cut by SIGKILL.
-
-The lines of the guest come through a pipe. A write of the guest to its port puts the bytes into the
-pipe before it returns, so a line can't be lost with the guest.
-"""
+"""A guest in qemu, whose power is cut by SIGKILL. Its lines come through a pipe, which has the bytes
+before a write of the guest returns: no line can be lost with the guest."""
 
 from __future__ import annotations
 

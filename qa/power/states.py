@@ -1,8 +1,7 @@
 """Crash states: the disks that a cut might have left, made from the log of a guest's disk.
 
-At each flush there is the disk with all that was flushed. At drawn requests there are disks with
-any of the writes since the last flush, also with torn ones. Each state must agree with the bank's
-book at that moment. Begin with `look_at`.
+README.md says which disks these are. Each must agree with the bank's book at that moment. Begin
+with `look_at`.
 """
 
 from __future__ import annotations

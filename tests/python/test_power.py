@@ -93,6 +93,14 @@ class Rules(unittest.TestCase):
         found.take(text)
         self.assertEqual((found.wrongs, found.is_refused, found.is_stuck), ([], False, True))
 
+    def test_a_torn_commit_of_ext4_is_mended_and_no_other_refusal(self) -> None:
+        found = after()
+        found.take("@refused mount [ 2.6] JBD2: journal transaction 103 on vda-8 is corrupt. .")
+        self.assertEqual((found.wrongs, found.is_refused, found.is_stuck, found.needs_fsck),
+                         ([], False, True, True))
+        self.shows("refused", "@refused mount EXT4-fs (vda): bad geometry .")
+        self.shows("refused", "@refused status 65 journal transaction 103 on vda-8 is corrupt .")
+
     def test_a_crew_goes_on_twice_after_a_disk_has_failed(self) -> None:
         found = after()
         found.boot_anew(3, bank.Dangers(fails=True))

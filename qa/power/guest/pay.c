@@ -4,7 +4,6 @@
                  book. Standard input is the lock of the attempt, whose name has the attempt's.
    AMO_LINE      the number of the line; else it stands after `job-` in the last of the words
    AMO_PAUSE     the longest pause before and after the effect, in milliseconds
-
    Each ninth line is performed by a child that outlives the command. The child takes another name,
    so that nobody kills it: the command has ended with 0, and that has to stay true. */
 #include <fcntl.h>

@@ -1,11 +1,7 @@
-/* Controls: stands before the C library's calls in a worker, and has some syncs do nothing.
-
-   AMO_SYNCS  `none`: no sync does anything
-              `unacknowledged`: the sync after a write of one byte does nothing, so an append is
-              acknowledged after the write of its commit byte alone
-              `deaf`: a sync that has failed counts as one that has not
-              `folders`: the sync of a folder does nothing
-              `record`: the sync of a new `record` does nothing */
+/* Controls: stands before the C library's calls in a worker, and has some syncs do nothing. By
+   AMO_SYNCS these are: `none`, all; `folders`, those of folders; `record`, that of a new `record`;
+   `unacknowledged`, that after a write of one byte, so an append is acknowledged after the write of
+   its commit byte alone. With `deaf` a sync that has failed counts as one that has not. */
 #define _GNU_SOURCE
 #include <dlfcn.h>
 #include <limits.h>
