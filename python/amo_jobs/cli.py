@@ -82,8 +82,7 @@ def work(settings: Settings, program: Program) -> int:
         os.makedirs(settings.results, 0o700, exist_ok=True)
     if settings.what == "work":
         return crew.work(settings, program)
-    return watching.told(settings, program,
-                         lambda: crew.Crew(settings, program, own).run())
+    return watching.told(settings, program, lambda: crew.Crew(settings, program, own))
 
 
 def runner(settings: Settings, program: Program, own: str) -> int:

@@ -6,11 +6,14 @@ import argparse
 import gc
 import json
 import sys
-from typing import Any, Callable, Collection, Dict, List, Tuple
+from typing import Any, Callable, Collection, Dict, List, Tuple, TYPE_CHECKING
 
 from amo_jobs.settings import Settings
 from amo_jobs.statuses import Status
 from amo_jobs.worker import Program, version
+
+if TYPE_CHECKING:
+    from amo_watch.teller import Crew
 
 # Each call imports its modules itself: a runner is started often, and needs none of them.
 
@@ -34,12 +37,12 @@ def watch(settings: Settings, program: Program) -> int:
     return call(settings, program)
 
 
-def told(settings: Settings, program: Program, crew: Callable[[], int]) -> int:
+def told(settings: Settings, program: Program, made: Callable[[], "Crew"]) -> int:
     """Runs a crew, and tells others of it if that is asked for. Returns the crew's status."""
     if not (settings.metrics or settings.events or settings.notify):
-        return crew()
+        return made().run()
     from amo_watch.teller import told as call
-    return call(settings, program, crew)
+    return call(settings, program, made)
 
 
 CALLS: Dict[str, Callable[[Settings, Program], int]] = {"report": report, "watch": watch}

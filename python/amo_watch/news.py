@@ -7,7 +7,7 @@ import os
 import subprocess
 import time
 from contextlib import suppress
-from typing import Any, Callable, Dict, Iterable, List, Optional, Set
+from typing import Any, Callable, Dict, List, Optional, Set
 
 from amo_jobs.messages import End, reason, visible
 from amo_jobs.settings import Settings
@@ -15,7 +15,7 @@ from amo_jobs.worker import Program
 from amo_watch import metrics
 from amo_watch.chunks import OtherChunks
 from amo_watch.figures import added, figures_of
-from amo_watch.snapshot import alive, Attempt, Follower, Snapshot, snapshot_of
+from amo_watch.snapshot import alive, Attempt, Follower, said_now, Snapshot, snapshot_of
 
 EVERY = 5.0  # seconds between two files of numbers
 PATIENCE = 10.0  # seconds for the last notifications
@@ -31,17 +31,24 @@ class News:
         self.told: Set[int] = set()
         self.failed: Set[str] = set()
         self.follower: Optional[Follower] = None
-        self.began = int(time.time())
+        self.has_looked = False
         self.due, self.begin_at = 0.0, 0.0
         self.error_at: Optional[float] = None
         self.status: Optional[int] = None
         self.children: List["subprocess.Popen[bytes]"] = []
         self.others = OtherChunks(settings, program) if settings.shared else None
 
+    def look(self) -> None:
+        """Looks at the run before the crew's first runner starts. What stands there is no news."""
+        with suppress(End, OSError):  # no round may have been begun
+            self.found = snapshot_of(self.program, self.settings.run)
+        self.told = {it.line for it in self.found.of("doubt")}
+        self.has_looked = True
+
     def files(self) -> List[int]:
         """Returns the file that is to be polled. The process that follows the run is started again
         once a second if it has ended: a round may not have been begun."""
-        if self.follower is None and time.monotonic() >= self.begin_at:
+        if self.has_looked and self.follower is None and time.monotonic() >= self.begin_at:
             self.begin_at = time.monotonic() + 1
             self.try_to("metrics", self.follow)
         return [self.follower.file] if self.follower else []
@@ -65,18 +72,9 @@ class News:
             self.numbers(True)
 
     def take(self, said: Dict[str, Any]) -> None:
-        """Takes a line."""
-        is_first = not self.found.time
-        self.compare(self.found.take(said), is_first)
-
-    def compare(self, fresh: Iterable[Attempt], is_first: bool) -> None:
-        """Tells of these attempts. At first, what has neither begun nor ended since the crew began
-        is no news."""
-        for it in fresh:
-            if not is_first or max(it.begun or 0, it.ended or 0) >= self.began:
-                self.attempt(it)
-            elif it.state == "doubt":
-                self.told.add(it.line)
+        """Takes a line, and tells of each attempt that is new or has changed."""
+        for it in self.found.take(said):
+            self.attempt(it)
 
     def attempt(self, it: Attempt) -> None:
         """Tells that an attempt is new or has changed; of a line in doubt also by the command."""
@@ -103,10 +101,8 @@ class News:
             self.follower.close()
             self.follower = None
         with suppress(End, OSError):
-            found = snapshot_of(self.program, self.settings.run)
-            fresh = [it for key, it in found.attempts.items() if self.found.attempts.get(key) != it]
-            is_first, self.found = not self.found.time, found
-            self.compare(fresh, is_first)
+            if self.has_looked:
+                self.take(said_now(self.program, self.settings.run))
         self.event("end", status=self.status, counts=self.found.counts)
         self.notify("end", AMO_STATUS="" if self.status is None else str(self.status))
         self.numbers(False)

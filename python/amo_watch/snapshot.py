@@ -40,6 +40,11 @@ class Attempt(NamedTuple):
     state: str  # one of COUNTS; an answer of an operator may have changed it
 
     @property
+    def key(self) -> Tuple[int, int]:
+        """What no other attempt of the run has."""
+        return self.worker, self.serial
+
+    @property
     def name(self) -> str:
         """The name by which an operator answers, P.S."""
         return f"{self.worker}.{self.serial}"
@@ -81,9 +86,10 @@ class Snapshot:
         self.time, self.id = said["time"], said["id"]
         self.round, self.workers, self.lines = said["round"], said["workers"], said["lines"]
         self.counts = {it: said[it] for it in COUNTS}
-        fresh = [Attempt._make(row) for row in said["attempts"]]
-        self.put({(it.worker, it.serial): it for it in fresh})
-        return fresh
+        fresh = {it.key: it for it in map(Attempt._make, said["attempts"])
+                 if self.attempts.get(it.key) != it}
+        self.put(fresh)
+        return list(fresh.values())
 
     def put(self, fresh: Dict[Tuple[int, int], Attempt]) -> None:
         """Puts attempts at their places. (A first line may have 100,000 of them.)"""
@@ -137,10 +143,15 @@ def words_of(program: Program, run: str, *more: str) -> List[str]:
     return [program.path, "status", run, "--follow", *more, *program.more]
 
 
+def said_now(program: Program, run: str) -> Dict[str, Any]:
+    """Returns what a first line says, which has all attempts."""
+    return said_in(program.call("status", run, "--follow", "--once"), program)
+
+
 def snapshot_of(program: Program, run: str) -> Snapshot:
     """Returns how a run stands now."""
     found = Snapshot()
-    found.take(said_in(program.call("status", run, "--follow", "--once"), program))
+    found.take(said_now(program, run))
     return found
 
 

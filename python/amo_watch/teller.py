@@ -2,7 +2,7 @@
 
 A process of its own does it, the teller. It is no child of the supervisor, which would wait for
 it as for what a command leaves behind. A pipe from the supervisor has the crew's messages, and at
-last its status. If the teller fails or is killed, the crew goes on. Begin with `telling`.
+last its status. If the teller fails or is killed, the crew goes on. Begin with `told`.
 """
 
 from __future__ import annotations
@@ -13,7 +13,7 @@ import select
 import signal
 import sys
 from contextlib import contextmanager, suppress
-from typing import Callable, Iterator, List
+from typing import Any, Callable, Iterator, List, Protocol, Tuple
 
 from amo_jobs.locks import close_all
 from amo_jobs.messages import Screen
@@ -21,28 +21,41 @@ from amo_jobs.settings import Settings
 from amo_jobs.worker import Program
 from amo_watch.news import News
 
-END_SECONDS = 20.0  # for which a crew that has ended waits for its teller
-Crew = Callable[[], int]
+PATIENCE = 20.0  # seconds for which a crew waits for its teller, before and after its work
+Send = Callable[[str, object], None]
 
 
-def told(settings: Settings, program: Program, crew: Crew) -> int:
-    """Runs a crew, and tells others of it. Returns the crew's status."""
-    with telling(settings, program) as end:
-        status = crew()
-        end(status)
+class Crew(Protocol):
+    """A supervisor that has the lock of its folder."""
+
+    def run(self) -> int:
+        """Runs the crew to its end, and returns its status."""
+
+
+def told(settings: Settings, program: Program, made: Callable[[], Crew]) -> int:
+    """Runs a crew, and tells others of it. Returns the crew's status. The teller looks at the run
+    once the crew has its folder's lock, before a runner starts: what is so then is no news."""
+    with telling(settings, program) as (send, looked):
+        crew = made()
+        send("begin", None)
+        select.select([looked], [], [], PATIENCE)
+        status = crew.run()
+        send("end", int(status))
         return status
 
 
 @contextmanager
-def telling(settings: Settings, program: Program) -> Iterator[Callable[[int], None]]:
-    """Has a teller run meanwhile. The crew's status is handed to the call that it yields."""
+def telling(settings: Settings, program: Program) -> Iterator[Tuple[Send, int]]:
+    """Has a teller run meanwhile. Yields a call that sends it a message, and a pipe that can be
+    read once it has looked at the run."""
     reads, writes = os.pipe()  # messages
+    looked, looks = os.pipe()
     waits, ends = os.pipe()  # whose end is the teller's
     middle = os.fork()
     if middle == 0:
-        begin([writes, waits], lambda: tell(settings, program, reads))
+        begin([writes, looked, waits], lambda: tell(settings, program, reads, looks))
     os.waitpid(middle, 0)
-    close_all([reads, ends])
+    close_all([reads, looks, ends])
     os.set_blocking(writes, False)
 
     def send(kind: str, value: object) -> None:
@@ -51,12 +64,12 @@ def telling(settings: Settings, program: Program) -> Iterator[Callable[[int], No
 
     Screen.also = lambda text: send("message", text)
     try:
-        yield lambda status: send("end", int(status))
+        yield send, looked
     finally:
         Screen.also = None
         close_all([writes])
-        select.select([waits], [], [], END_SECONDS)
-        close_all([waits])
+        select.select([waits], [], [], PATIENCE)
+        close_all([looked, waits])
 
 
 def begin(others: List[int], call: Callable[[], None]) -> None:
@@ -75,7 +88,7 @@ def begin(others: List[int], call: Callable[[], None]) -> None:
     os._exit(0)
 
 
-def tell(settings: Settings, program: Program, reads: int) -> None:
+def tell(settings: Settings, program: Program, reads: int, looks: int) -> None:
     """Tells others until the supervisor is gone."""
     news, rest, is_open = News(settings, program, Screen.tell), b"", True
     while is_open:
@@ -86,6 +99,16 @@ def tell(settings: Settings, program: Program, reads: int) -> None:
             is_open = bool(part)
             *lines, rest = (rest + part).split(b"\n")
             for line in lines:
-                news.hear(*json.loads(line))
+                take(news, looks, *json.loads(line))
         news.turn([it for it in ready if it != reads])
     news.end()
+
+
+def take(news: News, looks: int, kind: str, value: Any) -> None:
+    """Takes a message of the supervisor."""
+    if kind != "begin":
+        news.hear(kind, value)
+        return
+    news.look()
+    with suppress(OSError):  # the supervisor is gone
+        os.write(looks, b".")

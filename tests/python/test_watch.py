@@ -9,6 +9,7 @@ import subprocess
 import sys
 import tempfile
 import unittest
+from unittest import mock
 
 import package
 
@@ -239,11 +240,13 @@ class Tellers(unittest.TestCase):
 
     def test_what_was_there_before_is_no_news(self):
         it = self.news(events=f"{self.room.name}/events")
-        it.began = NOW - 15
+        it.program = Program(ROWS[:2], 9)
+        it.look()
         it.take(Program(ROWS[:2], 9).said)
         it.take(Program([ROWS[2], ROWS[3]], 9).said)
         it.hear("message", "line 4: attempt 2.1 failed with status 7")
         it.hear("end", 2)
+        it.program = Program(ROWS[:4], 9)
         it.end()
         found = self.events()
         self.assertEqual([(it["event"], it.get("attempt")) for it in found], [
@@ -252,7 +255,8 @@ class Tellers(unittest.TestCase):
 
     def test_a_line_that_comes_into_doubt_is_told_once(self):
         it = self.news(notify=f'echo "$AMO_EVENT $AMO_LINE $AMO_ATTEMPT" >> {self.room.name}/told')
-        it.began = NOW
+        it.program = Program(ROWS[:2], 9)
+        it.look()
         it.take(Program(ROWS[:2], 9).said)
         it.take(Program([[2, 2, 5, NOW, "doubt", None, NOW, "doubt"]], 9).said)
         it.take(Program([[2, 3, 5, NOW, "doubt", None, NOW, "doubt"]], 9).said)
@@ -262,19 +266,30 @@ class Tellers(unittest.TestCase):
             self.assertEqual(sorted(file), ["doubt 5 2.2\n", "end  \n", "stop  \n"])
 
     def test_a_doubt_that_is_recorded_before_the_first_line_is_told(self):
-        # The attempts are of an earlier crew. This crew found 1.1 in doubt, and 1.2 was so before.
-        rows = [[1, 1, 1, NOW - 90, "doubt", None, NOW - 9, "doubt"],
-                [1, 2, 2, NOW - 90, "doubt", None, NOW - 11, "doubt"]]
+        # The attempts are of an earlier crew, and both ended in one second. This crew found 1.1 in
+        # doubt, and 1.2 was so before.
+        old = [[1, 1, 1, NOW - 90, "pending", None, None, "pending"],
+               [1, 2, 2, NOW - 90, "doubt", None, NOW - 9, "doubt"]]
+        rows = [[1, 1, 1, NOW - 90, "doubt", None, NOW - 9, "doubt"], old[1]]
         for is_followed in (True, False):  # a crew that ends at once is looked at once
             told = f"{self.room.name}/told{is_followed}"
             it = self.news(notify=f'echo "$AMO_EVENT $AMO_ATTEMPT" >> {told}')
+            it.program = Program(old, 9)
+            it.look()
             it.program = Program(rows, 9)
-            it.began = NOW - 10
             if is_followed:
                 it.take(it.program.said)
             it.end()
             with open(told, encoding="ascii") as file:
                 self.assertEqual(sorted(file), ["doubt 1.1\n", "end \n"])
+
+    def test_a_crew_that_never_began_tells_of_no_line(self):
+        it = self.news(notify=f'echo "$AMO_EVENT" >> {self.room.name}/told')
+        it.program = Program([[1, 2, 2, NOW - 90, "doubt", None, NOW - 9, "doubt"]], 9)
+        self.assertEqual(it.files(), [])
+        it.end()
+        with open(f"{self.room.name}/told", encoding="ascii") as file:
+            self.assertEqual(file.read(), "end\n")
 
     def test_a_failure_is_reported_once(self):
         missing = f"{self.room.name}/missing/file"
@@ -288,7 +303,9 @@ class Tellers(unittest.TestCase):
             "--notify: X: it has ended with 3; correct it (the crew goes on)"])
 
     def test_a_crew_that_wants_nothing_told_has_no_teller(self):
-        self.assertEqual(commands.told(Settings(), Program([], 0), lambda: 7), 7)
+        crew = mock.Mock()
+        crew.run.return_value = 7
+        self.assertEqual(commands.told(Settings(), Program([], 0), lambda: crew), 7)
         self.assertIsNone(Screen.also)
 
 

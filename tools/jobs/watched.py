@@ -454,10 +454,8 @@ def try_told(bench):
     missing = f"{scene.room}/missing/file"
     crew = scene.start("--metrics", missing, "--events", missing, "--notify", "exit 3")
     want(crew.wait(240) == DOUBTFUL, f"{crew.poll()}: {scene.tale()[-500:]}")
-    for it in ("--metrics: ", "--events: "):
+    for it in ("--metrics: ", "--events: ", "--notify: "):
         want(scene.tale().count(it) == 1, f"{it}: {scene.tale()}")
-    # Of the end; of the doubt too, if this crew began in the second in which that attempt ended.
-    want(scene.tale().count("--notify: ") in (1, 2), scene.tale())
     scene.see_out()
 
 
