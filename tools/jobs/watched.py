@@ -42,6 +42,7 @@ from amo_jobs.worker import Program
 from amo_watch.news import News
 run, worker, kind, workers, path = sys.argv[2:]
 it = News(Settings(run=run, workers=int(workers), metrics=path), Program(worker, kind), print)
+it.look()
 while not it.found.time:
     it.turn(it.files())
 it.end()

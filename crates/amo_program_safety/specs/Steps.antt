@@ -43,10 +43,10 @@ MayRecord m (PutAnswer f) = FitsFinding f × IsTruthful m f
 MayRecord m r = ⊥
 
 -- The results that a call of an operator's command may have. The command gets the lock on a journal
--- only if no process has that lock. It gets the lock of a runner only if no command has that lock
--- and the runner has no attempt whose command it may still start. It gets the lock of an attempt's
--- command only if nothing of that command is left on this machine. It learns that its append is on
--- the disk only after the append was written.
+-- only if no process has that lock. It gets the lock of a runner only if the runner has no attempt
+-- whose command it may still start. It gets the lock of an attempt's command only if nothing of that
+-- command is left on this machine. It learns that its append is on the disk only after the append
+-- was written.
 abbrev pub MachineGives : Machine → Operator → Call → Type 0
 MachineGives m o (Tried (Journal worker) true) = (m.world.guard worker ≡ None) × (m.held worker ≡ None)
 MachineGives m o (Tried (Runner worker) true) = (h : Handing) → IsOneOf m.waiting h → h.worker ≡ worker → ⊥
