@@ -103,6 +103,7 @@ class Crew:
                            {it: Number() for it in range(1, settings.workers + 1)})
         self.lock = self.take_crew()
         self.family, self.signals = Family(settings.may_leave), Signals(Screen.tell)
+        self.before = self.family.snapshot(())  # children of whoever became this process
         self.bell = calls.Bell()
         self.progress = Progress(settings, program, self.state)
         self.locks: Dict[int, int] = {}
@@ -199,7 +200,7 @@ class Crew:
         self.feed(self.orphans())
 
     def orphans(self) -> Orphans:
-        """Looks at the children that are no runners."""
+        """Looks at what runners have left behind."""
         try:
             left = self.orphans_below()
         except OSError as error:
@@ -210,8 +211,9 @@ class Crew:
         return Orphans(bool(left), described(unseen))
 
     def orphans_below(self) -> List[calls.Process]:
-        """Returns the children that are no runners, and all below them. Raises OSError."""
-        return self.family.rest((), [it.process for it in self.posts.values()])
+        """Returns the children that came after this crew and are no runners, and all below them.
+        Raises OSError."""
+        return self.family.rest(self.before, [it.process for it in self.posts.values()])
 
     def feed(self, event: Event) -> None:
         """Has the rules take an event, and does what they ask for."""

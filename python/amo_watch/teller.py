@@ -1,8 +1,9 @@
 """What a crew tells others while it works: `--metrics`, `--events` and `--notify`.
 
-A process of its own does it, the teller. It is no child of the supervisor, which would wait for
-it as for what a command leaves behind. A pipe from the supervisor has the crew's messages, and at
-last its status. If the teller fails or is killed, the crew goes on. Begin with `told`.
+A process of its own does it, the teller. It begins before the crew, whose supervisor waits for no
+earlier child: the first process of a container gets the teller as a child. A pipe from the
+supervisor has the crew's messages, and at last its status. If the teller fails or is killed, the
+crew goes on. Begin with `told`.
 """
 
 from __future__ import annotations

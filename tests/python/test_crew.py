@@ -1,0 +1,79 @@
+"""Whole crews, over a program that stands for amo_worker and finds each line done."""
+
+import fcntl
+import os
+import signal
+import subprocess
+import sys
+import tempfile
+import unittest
+
+from package import ROOT, SECONDS
+from amo_jobs import calls
+
+ID = "0123456789abcdef" * 2
+WORKER = f"""#!/bin/sh
+case "$*" in
+door*) mkdir "$2" && echo {ID} > "$2/id" ;;
+status*--follow*) echo '{{"format":1,"time":1764100000,"id":"{ID}","round":1,"workers":1,"lines":1,\
+"done":1,"failed":0,"doubt":0,"pending":0,"untouched":0,"open":0,"attempts":[]}}' ;;
+status*) echo '{{"lines":1,"done":1,"failed":0,"doubt":0,"running":0,"untouched":0,"open":0,\
+"alive":[],"intents":[]}}' ;;
+esac
+"""
+COUNTS = "amo_jobs: 1 lines: 1 done, 0 failed, 0 in doubt, 0 running, 0 untouched, 0 open\n"
+
+
+class Crews(unittest.TestCase):
+    def setUp(self):
+        room = tempfile.TemporaryDirectory()
+        self.addCleanup(room.cleanup)
+        self.room, self.list = room.name, f"{room.name}/list"
+        self.put("list", "a\n")
+        self.put("worker", WORKER)
+        os.chmod(f"{self.room}/worker", 0o700)
+        self.told = f"{self.room}/told"
+        self.notify = "--notify", f'echo "$AMO_EVENT $AMO_STATUS" >> {self.told}'
+
+    def put(self, name, text):
+        with open(f"{self.room}/{name}", "w", encoding="ascii") as file:
+            file.write(text)
+
+    def text(self, path):
+        with open(path, encoding="ascii") as file:
+            return file.read()
+
+    def words(self, *options):
+        return [sys.executable, "-B", f"{ROOT}/amo_jobs", "crew", "--workers", "1",
+                "--worker-program", f"{self.room}/worker", *options, self.list, "--", "true"]
+
+    def ended(self, words, **more):
+        """Runs a crew; returns its status and what it has printed."""
+        ran = subprocess.run(words, stdin=subprocess.DEVNULL, stderr=subprocess.PIPE,
+                             encoding="utf-8", timeout=SECONDS, **more)
+        return ran.returncode, ran.stderr
+
+    def test_a_crew_ends_once_all_is_done(self):
+        code, said = self.ended(self.words(*self.notify))
+        self.assertEqual((code, said[said.index("\n") + 1:]), (0, COUNTS), said)
+        self.assertEqual(self.text(self.told), "end 0\n")
+
+    def test_a_child_from_before_the_crew_is_not_waited_for(self):
+        # As in an entry point of a container, whose shell becomes the crew.
+        script = 'sleep 20 2> /dev/null & echo $! > "$0"; exec "$@"'
+        helper = f"{self.room}/helper"
+        code, said = self.ended(["sh", "-c", script, helper, *self.words()])
+        os.kill(int(self.text(helper)), signal.SIGKILL)  # it is still there
+        self.assertEqual(code, 0)
+        self.assertNotIn("it waits for", said)
+
+    def test_a_teller_that_is_a_child_is_not_waited_for(self):
+        # As for the first process of a container, whose children are all orphans.
+        code, said = self.ended(self.words(*self.notify), preexec_fn=calls.become_subreaper)
+        self.assertEqual(code, 0, said)
+        self.assertNotIn("it waits for", said)
+        self.assertEqual(self.text(self.told), "end 0\n")
+
+
+if __name__ == "__main__":
+    unittest.main()
