@@ -2,7 +2,6 @@
 
 from __future__ import annotations
 
-import fcntl
 import json
 import os
 import shlex
@@ -12,7 +11,7 @@ from contextlib import suppress
 from typing import Optional
 
 from amo_jobs.files import bytes_of, content, place, sync_folder
-from amo_jobs.locks import locked_soon
+from amo_jobs.locks import close_all, locked_soon
 from amo_jobs.mark import ID, Mark, Row, id_of, name_beside, refusal, row_of
 from amo_jobs.messages import End, lowered, refused, visible
 from amo_jobs.settings import Settings
@@ -155,10 +154,11 @@ def refuse_other_command(settings: Settings) -> None:
 def note_command(settings: Settings, version: str) -> None:
     """Records the command before a line is performed, and for a report also the options and the
     version. Of two crews that start together the later one is refused."""
-    with open(settings.jobs, "rb") as file:
-        with suppress(OSError):  # a file system over a network may have no locks
-            fcntl.flock(file, fcntl.LOCK_EX)
-        refuse_other_command(settings)
-        place(f"{settings.run}/command",
-              json.dumps({"command": settings.command, "results": settings.results,
-                          "options": settings.options, "version": version}))
+    lock = None
+    with suppress(OSError):  # a file system over a network may have no locks
+        lock = locked_soon(settings.jobs)  # None: whoever has started this crew may have it
+    refuse_other_command(settings)
+    place(f"{settings.run}/command",
+          json.dumps({"command": settings.command, "results": settings.results,
+                      "options": settings.options, "version": version}))
+    close_all([] if lock is None else [lock])

@@ -74,6 +74,12 @@ class Crews(unittest.TestCase):
         self.assertNotIn("it waits for", said)
         self.assertEqual(self.text(self.told), "end 0\n")
 
+    def test_a_lock_of_the_list_that_another_has_is_not_waited_for(self):
+        # As in: flock tonight.txt amo_jobs crew .. tonight.txt
+        with open(self.list, "rb") as file:
+            fcntl.flock(file, fcntl.LOCK_EX)
+            self.assertEqual(self.ended(self.words())[0], 0)
+
 
 if __name__ == "__main__":
     unittest.main()
