@@ -100,12 +100,13 @@ class News:
         if self.follower:
             self.follower.close()
             self.follower = None
+        has_begun = self.has_looked
         with suppress(End, OSError):
-            if self.has_looked:
-                self.take(said_now(self.program, self.settings.run))
+            self.take(said_now(self.program, self.settings.run)) if has_begun else self.look()
         self.event("end", status=self.status, counts=self.found.counts)
         self.notify("end", AMO_STATUS="" if self.status is None else str(self.status))
-        self.numbers(False)
+        if has_begun:  # else the numbers are those of the crew that has the folder
+            self.numbers(False)
         until = time.monotonic() + PATIENCE
         while self.children and time.monotonic() < until:
             time.sleep(0.05)

@@ -1,9 +1,8 @@
 """What a crew tells others while it works: `--metrics`, `--events` and `--notify`.
 
-A process of its own does it, the teller. It begins before the crew, whose supervisor waits for no
-earlier child: the first process of a container gets the teller as a child. A pipe from the
-supervisor has the crew's messages, and at last its status. If the teller fails or is killed, the
-crew goes on. Begin with `told`.
+A process of its own does it, the teller. It begins before its crew, which waits for no child that
+was there before. A pipe from the supervisor has the crew's messages, and at last its status. If the
+teller fails or is killed, the crew goes on. Begin with `told`.
 """
 
 from __future__ import annotations
@@ -17,7 +16,7 @@ from contextlib import contextmanager, suppress
 from typing import Any, Callable, Iterator, List, Protocol, Tuple
 
 from amo_jobs.locks import close_all
-from amo_jobs.messages import Screen
+from amo_jobs.messages import End, end_of, Screen
 from amo_jobs.settings import Settings
 from amo_jobs.worker import Program
 from amo_watch.news import News
@@ -34,15 +33,22 @@ class Crew(Protocol):
 
 
 def told(settings: Settings, program: Program, made: Callable[[], Crew]) -> int:
-    """Runs a crew, and tells others of it. Returns the crew's status. The teller looks at the run
-    once the crew has its folder's lock, before a runner starts: what is so then is no news."""
+    """Runs a crew, and tells others of it, also if it fails. Returns the crew's status."""
     with telling(settings, program) as (send, looked):
-        crew = made()
-        send("begin", None)
-        select.select([looked], [], [], PATIENCE)
-        status = crew.run()
-        send("end", int(status))
-        return status
+        code, text = end_of(lambda: run(made, send, looked), f"the run `{settings.run}`")
+        send("end", int(code))
+    if text:
+        raise End(code, text)
+    return code
+
+
+def run(made: Callable[[], Crew], send: Send, looked: int) -> int:
+    """Runs a crew, and returns its status. The teller looks at the run once the crew has its
+    folder's lock, before a runner starts: what is so then is no news."""
+    crew = made()
+    send("begin", None)
+    select.select([looked], [], [], PATIENCE)
+    return crew.run()
 
 
 @contextmanager

@@ -80,6 +80,17 @@ class Crews(unittest.TestCase):
             fcntl.flock(file, fcntl.LOCK_EX)
             self.assertEqual(self.ended(self.words())[0], 0)
 
+    def test_a_crew_that_is_refused_tells_its_status(self):
+        os.mkdir(f"{self.list}.run")
+        self.put("list.run/id", f"{ID}\n")
+        self.put("worker", WORKER.replace("mkdir", "test -d"))
+        with open(f"{self.list}.run/crew", "wb") as file:
+            fcntl.flock(file, fcntl.LOCK_EX)
+            code, said = self.ended(self.words(*self.notify, "--metrics", f"{self.room}/numbers"))
+        self.assertEqual((code, self.text(self.told)), (75, "end 75\n"))
+        self.assertEqual(said.count("another crew works in this folder"), 1)
+        self.assertFalse(os.path.exists(f"{self.room}/numbers"))
+
 
 if __name__ == "__main__":
     unittest.main()

@@ -284,16 +284,20 @@ class Tellers(unittest.TestCase):
                 self.assertEqual(sorted(file), ["doubt 1.1\n", "end \n"])
 
     def test_a_crew_that_never_began_tells_of_no_line(self):
-        it = self.news(notify=f'echo "$AMO_EVENT" >> {self.room.name}/told')
+        numbers = f"{self.room.name}/numbers"  # of the crew that has the folder
+        it = self.news(notify=f'echo "$AMO_EVENT $AMO_DOUBT" >> {self.room.name}/told',
+                       metrics=numbers)
         it.program = Program([[1, 2, 2, NOW - 90, "doubt", None, NOW - 9, "doubt"]], 9)
         self.assertEqual(it.files(), [])
         it.end()
         with open(f"{self.room.name}/told", encoding="ascii") as file:
-            self.assertEqual(file.read(), "end\n")
+            self.assertEqual(file.read(), "end 1\n")
+        self.assertFalse(os.path.exists(numbers))
 
     def test_a_failure_is_reported_once(self):
         missing = f"{self.room.name}/missing/file"
         it = self.news(events=missing, metrics=missing, notify="exit 3")
+        it.look()
         it.hear("message", "one")
         it.hear("message", "two")
         it.end()
