@@ -83,6 +83,7 @@ class Number:
         self.is_refused = False  # whether the status is one that the operator has to look at
         self.running = 0  # the attempt whose command has run for a moment
         self.waits = False  # its runner waits for processes that only it sees
+        self.was_killed = False  # whether this crew had a runner of it that was killed
         self.is_told = False  # that another runner has its lock
 
 
@@ -177,15 +178,17 @@ def unbegun(state: State, worker: int, report: Report) -> Actions:
 
 def noted(state: State, worker: int, report: Report) -> Actions:
     """Notes how far a runner is, and prints it. What was lost is a failure, which the runner waits
-    to be known."""
+    to be known. It counts for the row if this crew has begun it, and not an earlier one."""
     number, kind = state.numbers[worker], report.kind
     if kind in (reports.RUNS, reports.LEFT_BEHIND):
         number.running = report.serial if kind == reports.RUNS else 0
     number.waits |= kind == reports.WAITS
     text = TEXTS.get(kind, "").format(worker=worker, status=state.status_command,
                                       **report._asdict())
-    orders = go(state, worker) if kind == reports.LOST else []
-    return [*orders, Say(text)] if text else orders
+    if kind == reports.LOST:
+        state.row += number.was_killed
+        return [Say(text), *after_failure(state, worker, report)]
+    return [Say(text)] if text else []
 
 
 def news(state: State, worker: int, report: Report) -> Actions:
@@ -243,6 +246,7 @@ def runner_ended(state: State, it: RunnerEnded) -> Actions:
         number.phase = Phase.ENDED
         return [LetGo(it.worker), *orders(state, reports.NEWS), *settle(state)]
     number.phase, number.status, state.has_orphans = Phase.DEAD, None, True
+    number.was_killed = True
     state.unseen = f"processes of worker {it.worker}"  # until that is looked at
     if it.code >= 0:
         is_own = it.code > Status.DOUBTFUL  # Python ends with 1 or 2 if it finds no program

@@ -171,6 +171,21 @@ class Steps(unittest.TestCase):
                        and self.state.is_stopping]
             self.assertEqual(stopped[:1], [count] if count else [])
 
+    def test_a_doubt_that_a_killed_runner_leaves_counts_for_the_row(self):
+        # As where memory is short, and the kernel kills a runner at each line.
+        for it in range(9):
+            self.take(RunnerEnded(1, -9))
+            self.take(Orphans(False, ""))
+            self.take(PauseOver(1))
+            self.assertEqual(self.report(reports.LOST, it, it)[1:], [Order(1, "go")])
+        self.assertIn("10 failures in a row", self.report(reports.ENDED, 10, 10, "doubt")[1].text)
+        self.assertTrue(self.state.is_stopping)
+
+    def test_a_doubt_of_an_earlier_crew_does_not_count_for_the_row(self):
+        for it in range(16):
+            self.assertEqual(self.report(reports.LOST, it, it)[1:], [Order(1, "go")])
+        self.assertFalse(self.state.is_stopping)
+
     def test_untouched_lines_are_no_failures(self):
         for _ in range(20):
             self.report(reports.ENDED, 1, 1, "untouched", 75)
