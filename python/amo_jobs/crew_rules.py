@@ -98,6 +98,7 @@ class State:
         self.row = 0  # failures in a row
         self.taken = 0  # lines against which another attempt stands
         self.has_orphans, self.unseen, self.has_told_unseen = False, "", False
+        self.is_lasting = False  # whether two looks in a row have found the same unseen ones
         self.is_over = False
 
     def running(self) -> List[str]:
@@ -247,7 +248,7 @@ def runner_ended(state: State, it: RunnerEnded) -> Actions:
         return [LetGo(it.worker), *orders(state, reports.NEWS), *settle(state)]
     number.phase, number.status, state.has_orphans = Phase.DEAD, None, True
     number.was_killed = True
-    state.unseen = f"processes of worker {it.worker}"  # until that is looked at
+    state.unseen, state.is_lasting = f"processes of worker {it.worker}", False  # before a look
     if it.code >= 0:
         is_own = it.code > Status.DOUBTFUL  # Python ends with 1 or 2 if it finds no program
         number.status, number.is_refused = it.code if is_own else Status.BUILD, True
@@ -274,6 +275,7 @@ def pause_over(state: State, it: PauseOver) -> Actions:
 
 def orphans(state: State, it: Orphans) -> Actions:
     """Takes what is left of runners that are gone."""
+    state.is_lasting = it.unseen != "" and it.unseen == state.unseen
     state.has_orphans, state.unseen = it.are_there, it.unseen
     return settle(state)
 
@@ -300,7 +302,8 @@ def end(state: State) -> Actions:
     phases = {it.phase for it in state.numbers.values()}
     is_closed = any(it.status == Status.DONE for it in state.numbers.values())
     is_waiting = Phase.LOCKS in phases and not is_closed
-    if is_waiting or phases & {Phase.RUNS, Phase.PAUSES, Phase.DEAD}:
+    is_waiting |= Phase.DEAD in phases and not state.is_lasting
+    if is_waiting or phases & {Phase.RUNS, Phase.PAUSES}:
         return []
     if state.unseen:
         is_told, state.has_told_unseen = state.has_told_unseen, True

@@ -282,10 +282,22 @@ class Steps(unittest.TestCase):
         self.take(Signalled(signal.SIGINT))
         self.report(reports.OVER, worker=2, code=69)
         self.take(RunnerEnded(2, 69))
+        said, = self.take(Orphans(True, "process 9 (x)"))
+        self.assertIn("it waits for process 9 (x)", said.text)
+        self.assertEqual(self.take(Orphans(True, "process 9 (x)")), [])
         said, signalled = self.take(Signalled(signal.SIGINT))
         self.assertIn("process 9 (x)", said.text)
         self.assertEqual(signalled, SignalOrphans(signal.SIGTERM))
         self.assertEqual(self.take(Orphans(True, ""))[-1], End(None))
+
+    def test_whom_a_killed_runner_is_waited_for_is_told_without_a_stop(self):
+        self.setUp(numbers=1)
+        self.take(RunnerEnded(1, -9))
+        self.assertEqual(self.take(Orphans(True, "process 8 (its worker), process 9 (x)")), [])
+        self.assertEqual(self.take(Orphans(True, "process 9 (x)")), [])
+        said, = self.take(Orphans(True, "process 9 (x)"))
+        self.assertIn("it waits for process 9 (x)", said.text)
+        self.assertEqual(self.take(Orphans(False, "")), [Pause(1, 0.1)])
 
     def test_unseen_processes_of_nobody_are_waited_for(self):
         self.report(reports.OVER, code=0)
