@@ -186,10 +186,9 @@ def noted(state: State, worker: int, report: Report) -> Actions:
     number.waits |= kind == reports.WAITS
     text = TEXTS.get(kind, "").format(worker=worker, status=state.status_command,
                                       **report._asdict())
-    if kind == reports.LOST:
-        state.row += number.was_killed
-        return [Say(text), *after_failure(state, worker, report)]
-    return [Say(text)] if text else []
+    state.row += kind == reports.LOST and number.was_killed
+    more = after_failure(state, worker, report) if kind == reports.LOST else []
+    return [Say(text), *more] if text else []
 
 
 def news(state: State, worker: int, report: Report) -> Actions:

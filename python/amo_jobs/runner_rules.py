@@ -294,18 +294,20 @@ def may_end(state: State) -> bool:
 
 def restart(state: State) -> Actions:
     """Starts the worker again after a pause. Reports, once for each status, that it goes on trying:
-    if ends aren't recorded yet, or if the worker has too little memory."""
+    if ends aren't recorded yet, if the worker has too little memory, or is always killed."""
     state.is_last_wait = False
     if state.is_pausing:
         return []
     state.is_pausing = True
     count = len(state.seen) + len(state.found)
-    is_fault = state.status > 0 and state.status not in (Status.LEFT, Status.LATER, state.warned)
-    if not is_fault or not count and state.status != Status.MEMORY:
+    is_killed = state.status < 0 and state.pause == LONGEST and not state.has_said
+    is_told = is_killed or state.status == Status.MEMORY or state.status > 0 and count > 0
+    if not is_told or state.status in (*IN_ORDER, state.warned):
         return [pause(state)]
     state.warned = state.status
     kind = reports.TRIES if count else reports.SHORT
-    return [Tell(Report(kind, code=count, text=state.message)), pause(state)]
+    text = state.message or f"amo_worker has ended with status {state.status}"
+    return [Tell(Report(kind, code=count, text=text)), pause(state)]
 
 
 def pause(state: State) -> Wait:

@@ -314,7 +314,7 @@ class Steps(unittest.TestCase):
     def test_pauses_are_doubled_until_the_worker_says_something_new(self):
         seconds = []
         for _ in range(8):
-            wait, = self.take(WorkerEnded(KILLED, ""))
+            *_, wait = self.take(WorkerEnded(KILLED, ""))
             seconds.append(wait.seconds)
             self.assertEqual(self.take(Elapsed(PAUSE, 0)), [StartWorker(True)])
         self.assertEqual(seconds, [0.1, 0.2, 0.4, 0.8, 1.6, 3.2, 4.0, 4.0])
@@ -384,6 +384,14 @@ class Steps(unittest.TestCase):
             self.take(Elapsed(PAUSE, 0))
         self.take(WorkerEnded(71, "out of memory"))
         self.assertEqual(self.take(Plain.STOP)[-1], End(71))
+
+    def test_a_worker_that_is_always_killed_is_told_once_and_tried_until_a_stop(self):
+        said = []
+        for _ in range(12):
+            said.append([it.report.text for it in self.take(WorkerEnded(-9, ""))
+                         if isinstance(it, Tell)])
+            self.take(Elapsed(PAUSE, 0))
+        self.assertEqual(said, [[]] * 7 + [["amo_worker has ended with status -9"]] + [[]] * 4)
 
     def test_an_end_that_is_not_recorded_is_told_once(self):
         self.begin()
