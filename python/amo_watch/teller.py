@@ -17,6 +17,7 @@ from typing import Any, Callable, Iterator, List, Protocol, Tuple
 
 from amo_jobs.locks import close_all
 from amo_jobs.messages import End, end_of, Screen
+from amo_jobs.pipes import Writer
 from amo_jobs.settings import Settings
 from amo_jobs.worker import Program
 from amo_watch.news import News
@@ -63,18 +64,19 @@ def telling(settings: Settings, program: Program) -> Iterator[Tuple[Send, int]]:
         begin([writes, looked, waits], lambda: tell(settings, program, reads, looks))
     os.waitpid(middle, 0)
     close_all([reads, looks, ends])
-    os.set_blocking(writes, False)
+    pipe = Writer(writes)  # which keeps what has no room now, unless the teller is gone
 
     def send(kind: str, value: object) -> None:
-        with suppress(OSError):  # the teller is gone, or doesn't read
-            os.write(writes, json.dumps([kind, value]).encode() + b"\n")
+        pipe.send(json.dumps([kind, value]).encode() + b"\n")
 
     Screen.also = lambda text: send("message", text)
     try:
         yield send, looked
     finally:
         Screen.also = None
-        close_all([writes])
+        while pipe.unsent and select.select([], pipe.files, [], PATIENCE)[1]:
+            pipe.send()
+        pipe.close()
         select.select([waits], [], [], PATIENCE)
         close_all([looked, waits])
 

@@ -1,6 +1,7 @@
 """Whole crews, over a program that stands for amo_worker and finds each line done."""
 
 import fcntl
+import json
 import os
 import signal
 import subprocess
@@ -90,6 +91,17 @@ class Crews(unittest.TestCase):
         self.assertEqual((code, self.text(self.told)), (75, "end 75\n"))
         self.assertEqual(said.count("another crew works in this folder"), 1)
         self.assertFalse(os.path.exists(f"{self.room}/numbers"))
+
+    def test_a_message_that_is_larger_than_a_pipe_keeps_no_other_from_being_told(self):
+        intent = '"intents":[{"intent":"1.1","line":1,"state":"running","text":"\'$long\'"}]'
+        self.put("worker", WORKER.replace('"intents":[]', intent).replace(
+            "case", "long=$(printf %0100000d 1)\ncase", 1))
+        events = f"{self.room}/events"
+        code, said = self.ended(self.words(*self.notify, "--events", events))
+        self.assertEqual((code, self.text(self.told)), (0, "end 0\n"), said[:500])
+        with open(events, encoding="utf-8") as file:
+            found = [json.loads(it) for it in file]
+        self.assertTrue(any(len(it.get("text", "")) > 100000 for it in found))
 
 
 if __name__ == "__main__":
