@@ -125,21 +125,21 @@ def check_beside(settings: Settings, remedy: str) -> None:
 
 
 def check_not_renamed(settings: Settings) -> None:
-    """Refuses a list without a mark that begins with the lines of a run whose list is missing: the
-    list was renamed, and its mark wasn't."""
-    above = os.path.dirname(settings.jobs)
-    for name in sorted(os.listdir(above)):
-        old = f"{above}/{name.removesuffix('.run-is')}"
-        if not name.endswith(".run-is") or os.path.lexists(old):
-            continue
-        mark = Mark.read(f"{old}.run-is")
-        known = bytes_of(f"{mark.folder}/jobs") if mark and mark.folder else None
-        if mark and known and (bytes_of(settings.jobs) or b"").startswith(known):
+    """Refuses a list without a mark that begins with the lines of a run whose list is missing, or
+    isn't its list any more: the list was renamed, and its mark wasn't."""
+    above, own = os.path.dirname(settings.jobs), bytes_of(settings.jobs) or b""
+    for old in sorted(f"{above}/{it[:-7]}" for it in os.listdir(above) if it.endswith(".run-is")):
+        with suppress(PermissionError):  # another user's, who alone may go on with that run
+            mark = Mark.read(f"{old}.run-is")
+            known = bytes_of(f"{mark.folder}/jobs") if mark and mark.folder else None
+            if not (mark and known and own.startswith(known)) or (
+                    os.path.isfile(old) and (bytes_of(old) or b"").startswith(known)):
+                continue
             words = shlex.join(["mv", f"{old}.run-is", settings.mark])
-            raise refused(f"list `{settings.asked}`: it has the lines of the missing list `{old}`,"
-                          f" whose run is in `{mark.folder}`; if the list was renamed, rename its"
-                          f" mark too: {words}, and give --run {shlex.quote(mark.folder)}. Else put"
-                          f" that run away: {sys.argv[0]} forget {shlex.quote(old)}")
+            raise refused(f"list `{settings.asked}`: it has the lines of the list `{old}`, which is"
+                          " missing or another one now; if it was renamed, rename its mark too:"
+                          f" {words}, and give --run {shlex.quote(mark.folder)}. Else put that run"
+                          f" away: {sys.argv[0]} forget {shlex.quote(old)}")
 
 
 def refuse_other_command(settings: Settings) -> None:

@@ -1,5 +1,7 @@
 """Whether a crew goes on, begins, moves or is refused, by the row that it finds."""
 
+import os
+import tempfile
 import unittest
 from unittest import mock
 
@@ -60,6 +62,49 @@ class Joined(unittest.TestCase):
 
     def test_the_runs_own_folder_goes_on_whatever_is_given_up(self):
         self.assertEqual(self.ways(Row.GOES_ON, ONE, ONE), (["enter", "sync"], OTHER))
+
+
+class Renamed(unittest.TestCase):
+    """A list beside the mark of another one, whose run knows two lines."""
+
+    def setUp(self):
+        room = tempfile.TemporaryDirectory()
+        self.addCleanup(room.cleanup)
+        self.room = room.name
+        os.mkdir(f"{self.room}/run")
+        self.put("run/jobs", "a\nb\n")
+        self.put("old.run-is", f"{ONE}\n{self.room}/run\n")
+
+    def put(self, name, text):
+        with open(f"{self.room}/{name}", "w", encoding="ascii") as file:
+            file.write(text)
+
+    def check(self, text):
+        self.put("new", text)
+        jobs = f"{self.room}/new"
+        run_folder.check_not_renamed(Settings(jobs=jobs, asked="new", mark=f"{jobs}.run-is"))
+
+    def is_refused(self, text):
+        with self.assertRaises(End) as held:
+            self.check(text)
+        self.assertIn(f"mv {self.room}/old.run-is {self.room}/new.run-is", held.exception.text)
+
+    def test_the_lines_of_a_missing_list_are_refused(self):
+        self.is_refused("a\nb\n")
+        self.is_refused("a\nb\nc\n")
+
+    def test_the_lines_of_a_list_whose_name_another_one_has_are_refused(self):
+        self.put("old", "c\n")  # tonight's, in the place of yesterday's
+        self.is_refused("a\nb\n")
+
+    def test_other_lines_and_a_list_that_is_still_there_are_nothing_to_refuse(self):
+        self.check("a\nc\n")
+        self.put("old", "a\nb\nc\n")
+        self.check("a\nb\n")
+
+    def test_a_run_of_another_user_is_left_out(self):
+        with mock.patch.object(run_folder, "bytes_of", side_effect=[b"a\n", PermissionError]):
+            self.check("a\n")
 
 
 if __name__ == "__main__":
