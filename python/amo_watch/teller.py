@@ -16,7 +16,7 @@ from contextlib import contextmanager, suppress
 from typing import Any, Callable, Iterator, List, Protocol, Tuple
 
 from amo_jobs.locks import close_all
-from amo_jobs.messages import End, end_of, Screen
+from amo_jobs.messages import End, end_of, reason, Screen
 from amo_jobs.pipes import Writer
 from amo_jobs.settings import Settings
 from amo_jobs.worker import Program
@@ -83,18 +83,19 @@ def telling(settings: Settings, program: Program) -> Iterator[Tuple[Send, int]]:
 
 def begin(others: List[int], call: Callable[[], None]) -> None:
     """Makes the call in a process that is nobody's child, and ends this one."""
-    if os.fork() == 0:
-        try:
+    try:
+        if os.fork() == 0:
             close_all(others)
             os.setsid()
             for number in (signal.SIGINT, signal.SIGTERM, signal.SIGHUP):
                 signal.signal(number, lambda *_: None)  # the end of the pipe ends it
             call()
-        except Exception:
-            sys.excepthook(*sys.exc_info())
-        finally:
-            os._exit(0)
-    os._exit(0)
+    except OSError as error:
+        Screen.tell(f"--metrics, --events, --notify: {reason(error)}; the crew goes on")
+    except Exception:
+        sys.excepthook(*sys.exc_info())
+    finally:
+        os._exit(0)
 
 
 def tell(settings: Settings, program: Program, reads: int, looks: int) -> None:

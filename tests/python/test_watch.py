@@ -15,7 +15,7 @@ import package
 
 from amo_jobs.messages import Screen
 from amo_jobs.settings import Settings
-from amo_watch import chunks, commands, figures, live, metrics, news, snapshot, view
+from amo_watch import chunks, commands, figures, live, metrics, news, snapshot, teller, view
 from test_report import NOW, Program
 
 sys.path.insert(0, f"{package.ROOT}/tools/modules")
@@ -305,6 +305,15 @@ class Tellers(unittest.TestCase):
             "--events: X: no such file or directory; check the path; the crew goes on",
             "--metrics: X: no such file or directory; check the path; the crew goes on",
             "--notify: X: it has ended with 3; correct it (the crew goes on)"])
+
+    def test_a_teller_that_cannot_be_forked_is_told_and_no_second_crew_goes_on(self):
+        with mock.patch.object(teller.os, "fork", side_effect=BlockingIOError(11, "no more")), \
+                mock.patch.object(teller.os, "_exit", side_effect=InterruptedError) as ended, \
+                mock.patch.object(Screen, "tell") as said, self.assertRaises(InterruptedError):
+            teller.begin([], lambda: None)
+        ended.assert_called_once_with(0)
+        self.assertIn("no more; allow more processes", said.call_args[0][0])
+        self.assertTrue(said.call_args[0][0].endswith("; the crew goes on"))
 
     def test_a_crew_that_wants_nothing_told_has_no_teller(self):
         crew = mock.Mock()
