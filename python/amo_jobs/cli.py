@@ -73,14 +73,13 @@ def work(settings: Settings, program: Program) -> int:
     from amo_jobs import crew
     from amo_jobs.run_folder import check_list, enter, joined, note_command
     check_list(settings)
-    run = (enter(settings, program, settings.id) if settings.what == "crew" and settings.id
-           else joined(settings, program))
-    settings.id = run
-    program.more += ["--id", run]
-    note_command(settings, own)
+    settings.id = (enter(settings, program, settings.id) if settings.what == "crew" and settings.id
+                   else joined(settings, program))
+    program.more += ["--id", settings.id]
     if settings.results != settings.run:  # since the door alone makes the run's folder
         os.makedirs(settings.results, 0o700, exist_ok=True)
     if settings.what == "work":
+        note_command(settings, own)
         return crew.work(settings, program)
     return watching.told(settings, program, lambda: crew.Crew(settings, program, own))
 

@@ -22,6 +22,7 @@ from amo_jobs.messages import End as Refusal, reason, Screen, visible
 from amo_jobs.pipes import Child
 from amo_jobs.processes import described, Family, Signals
 from amo_jobs.progress import Progress
+from amo_jobs.run_folder import note_command
 from amo_jobs.runner import Runner
 from amo_jobs.runner_state import BY_CREW
 from amo_jobs.settings import next_command, Settings
@@ -102,6 +103,7 @@ class Crew:
         self.state = State(settings, next_command(settings, "status"),
                            {it: Number() for it in range(1, settings.workers + 1)})
         self.lock = self.take_crew()
+        note_command(settings, version)
         self.family, self.signals = Family(settings.may_leave), Signals(Screen.tell)
         self.before = self.family.snapshot(())  # children of whoever became this process
         self.bell = calls.Bell()
@@ -211,8 +213,7 @@ class Crew:
         return Orphans(bool(left), described(unseen))
 
     def orphans_below(self) -> List[calls.Process]:
-        """Returns the children that came after this crew and are no runners, and all below them.
-        Raises OSError."""
+        """Returns the later children that are no runners, and all below them. Raises OSError."""
         return self.family.rest(self.before, [it.process for it in self.posts.values()])
 
     def feed(self, event: Event) -> None:

@@ -75,6 +75,20 @@ class Crews(unittest.TestCase):
         self.assertNotIn("it waits for", said)
         self.assertEqual(self.text(self.told), "end 0\n")
 
+    def test_a_crew_that_is_refused_notes_no_command(self):
+        # `doubts` looks for the first crew's output where that note says.
+        os.mkdir(f"{self.list}.run")
+        self.put("list.run/id", f"{ID}\n")
+        self.put("worker", WORKER.replace("mkdir", "test -d"))
+        note = json.dumps({"command": ["true"], "results": "/first"})
+        self.put("list.run/command", note)
+        with open(f"{self.list}.run/crew", "wb") as file:
+            fcntl.flock(file, fcntl.LOCK_EX)
+            code, _ = self.ended(self.words("--results", f"{self.room}/second"))
+        self.assertEqual((code, self.text(f"{self.list}.run/command")), (75, note))
+        self.assertEqual(self.ended(self.words("--results", f"{self.room}/second"))[0], 0)
+        self.assertIn("/second", self.text(f"{self.list}.run/command"))
+
     def test_a_lock_of_the_list_that_another_has_is_not_waited_for(self):
         # As in: flock tonight.txt amo_jobs crew .. tonight.txt
         with open(self.list, "rb") as file:
