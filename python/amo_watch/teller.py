@@ -82,7 +82,7 @@ def telling(settings: Settings, program: Program) -> Iterator[Tuple[Send, int]]:
 
 
 def begin(others: List[int], call: Callable[[], None]) -> None:
-    """Makes the call in a process that is nobody's child, and ends this one."""
+    """Makes the call in a process of its own, which outlives this one."""
     try:
         if os.fork() == 0:
             close_all(others)
