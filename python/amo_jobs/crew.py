@@ -175,7 +175,12 @@ class Crew:
         self.try_at = monotonic() + (LATER if is_late else SOON)
         for worker in self.untaken():
             path = f"{self.settings.run}/runner.{worker}"
-            lock = locked(path, True)
+            try:
+                lock = locked(path, True)
+            except OSError:  # such as no descriptor: what lives, or is left, needs this process
+                if not (self.posts or self.state.has_orphans):
+                    raise
+                return
             if lock is not None:
                 self.locks[worker] = lock
                 self.feed(Locked(worker))

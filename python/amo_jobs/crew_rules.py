@@ -12,7 +12,7 @@ from enum import Enum
 from typing import Any, Callable, Dict, List, NamedTuple, Optional, Union
 
 from amo_jobs import reports
-from amo_jobs.messages import visible
+from amo_jobs.messages import signal_name, visible
 from amo_jobs.reports import Report
 from amo_jobs.runner_state import BY_CREW, LONGEST, RUNNER_AGAIN, SHORTEST
 from amo_jobs.settings import Settings
@@ -205,7 +205,7 @@ def was_taken(state: State, worker: int, report: Report) -> Actions:
 
 def asked(state: State, worker: int, report: Report) -> Actions:
     """Stops the crew, since a runner got a signal of its own."""
-    return stop(state, f"worker {worker}: its runner got {signal.Signals(report.code).name}")
+    return stop(state, f"worker {worker}: its runner got {signal_name(report.code)}")
 
 
 def over(state: State, worker: int, report: Report) -> Actions:
@@ -252,7 +252,7 @@ def runner_ended(state: State, it: RunnerEnded) -> Actions:
         is_own = it.code > Status.DOUBTFUL  # Python ends with 1 or 2 if it finds no program
         number.status, number.is_refused = it.code if is_own else Status.BUILD, True
         return stop(state, f"worker {it.worker}: its runner has failed (status {it.code})")
-    name = signal.Signals(-it.code).name
+    name = signal_name(-it.code)
     return [Say(f"worker {it.worker}: its runner was ended by {name}"
                 + ("" if state.is_stopping else "; it is started again once nothing that it has"
                    " started is left"))]
@@ -324,7 +324,7 @@ def signalled(state: State, it: Signalled) -> Actions:
     """Takes a signal. The first one stops the crew in order, and each further one is passed on to
     the commands that run. What is waited for at last gets TERM."""
     state.asked += 1
-    name = signal.Signals(it.number).name
+    name = signal_name(it.number)
     if state.asked == 1:
         return stop(state, f"crew: it got {name}",
                     "; to pass a signal on to the commands: send one more")

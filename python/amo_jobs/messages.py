@@ -93,6 +93,11 @@ def reason(error: Exception) -> str:
     return f"{named}: {lowered(error)}; {remedy}"
 
 
+def signal_name(number: int) -> str:
+    """Returns the name of a signal, or its number if it has none."""
+    return next((it.name for it in signal.Signals if it == number), f"signal {number}")
+
+
 def refused(text: str) -> End:
     """Returns the end of a program that refuses something."""
     return End(Status.REFUSED, visible(text))

@@ -8,6 +8,7 @@ from __future__ import annotations
 
 import os
 import re
+from contextlib import suppress
 from typing import (
     Callable, Collection, Dict, FrozenSet, Iterable, List, Optional, Sequence, Set, Tuple
 )
@@ -145,15 +146,17 @@ class Signals:
         self.tell, self.refused = tell, set()  # type: Callable[[str], None], Set[Process]
 
     def send(self, number: int, find: Callable[[], List[Process]]) -> None:
-        """Sends a signal to each process that is found, until no new one is found."""
+        """Sends a signal to each process that is found, until no new one is found. What can't be
+        seen or reached for want of descriptors or memory gets the next signal."""
         reached: Set[Process] = set()
-        for _ in range(MOST_SWEEPS):
-            fresh = [it for it in find() if it not in reached]
-            if not fresh:
-                return
-            reached.update(fresh)
-            for process in fresh:
-                self.send_one(number, process)
+        with suppress(OSError):
+            for _ in range(MOST_SWEEPS):
+                fresh = [it for it in find() if it not in reached]
+                if not fresh:
+                    return
+                reached.update(fresh)
+                for process in fresh:
+                    self.send_one(number, process)
 
     def send_one(self, number: int, process: Process) -> None:
         """Sends a signal to a process that has not refused one."""
@@ -161,7 +164,7 @@ class Signals:
             return
         try:
             calls.send(process, number)
-        except OSError as error:
+        except PermissionError as error:
             self.refused.add(process)
             self.tell(f"{described([process])}: it can't be sent a signal: {lowered(error)}; wait"
                       " for its end, or end it as its user")

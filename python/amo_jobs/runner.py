@@ -237,8 +237,7 @@ class Runner:
         if action.serial in self.attempts:
             left, known = self.attempts[action.serial].left, self.known(action.serial)
             is_shared = len(self.attempts) > 1 and not self.state.is_last_wait
-            with suppress(OSError):
-                self.signals.send(action.number, lambda: left(known, is_shared))
+            self.signals.send(action.number, lambda: left(known, is_shared))
 
     def tell(self, action: Tell) -> None:
         """Reports. If the runner waits at last, the report names the processes."""

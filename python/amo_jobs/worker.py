@@ -5,7 +5,7 @@ from __future__ import annotations
 import os
 from typing import Any, Dict
 
-from amo_jobs.messages import End, Screen, visible
+from amo_jobs.messages import End, Screen, signal_name, visible
 from amo_jobs.statuses import Status
 
 # The folder of the programs.
@@ -60,12 +60,17 @@ class Program:
         return program
 
     def call(self, *words: str) -> bytes:
-        """Returns what the program writes. If it fails, raises its status; it has reported why."""
+        """Returns what the program writes. If it fails, raises its status; it has reported why,
+        unless it was killed."""
         import subprocess  # no runner needs it
         ended = subprocess.run([self.path, *words, *self.more], stdin=subprocess.DEVNULL,
                                stdout=subprocess.PIPE, start_new_session=True)
-        if ended.returncode:
-            raise End(ended.returncode if ended.returncode > 0 else Status.MEMORY, None)
+        if ended.returncode > 0:
+            raise End(ended.returncode, None)
+        if ended.returncode < 0:
+            raise End(Status.MEMORY, f"`{visible(self.path)}`: it was ended by"
+                                     f" {signal_name(-ended.returncode)}; allow it more memory if a"
+                                     " limit did that, then try again")
         return ended.stdout
 
     def shown(self, *words: str) -> int:

@@ -15,7 +15,7 @@ from amo_jobs.worker import Program
 from amo_watch import metrics
 from amo_watch.chunks import OtherChunks
 from amo_watch.figures import added, figures_of
-from amo_watch.snapshot import alive, Attempt, Follower, said_now, Snapshot, snapshot_of
+from amo_watch.snapshot import alive, Attempt, Follower, said_now, Snapshot
 
 EVERY = 5.0  # seconds between two files of numbers
 PATIENCE = 10.0  # seconds for the last notifications
@@ -39,11 +39,10 @@ class News:
         self.others = OtherChunks(settings, program) if settings.shared else None
 
     def look(self) -> None:
-        """Looks at the run before the crew's first runner starts. What stands there is no news."""
-        with suppress(End, OSError):  # no round may have been begun
-            self.found = snapshot_of(self.program, self.settings.run)
-        self.told = {it.line for it in self.found.of("doubt")}
+        """Looks at the run before the crew's first runner starts."""
         self.has_looked = True
+        with suppress(End, OSError):
+            self.take(said_now(self.program, self.settings.run))
 
     def files(self) -> List[int]:
         """Returns the file that is to be polled. The process that follows the run is started again
@@ -72,8 +71,13 @@ class News:
             self.numbers(True)
 
     def take(self, said: Dict[str, Any]) -> None:
-        """Takes a line, and tells of each attempt that is new or has changed."""
-        for it in self.found.take(said):
+        """Takes a line, and tells of each attempt that is new or has changed. What stands in the
+        first line is no news."""
+        is_first, fresh = not self.found.time, self.found.take(said)
+        if is_first:
+            self.told = {it.line for it in self.found.of("doubt")}
+            return
+        for it in fresh:
             self.attempt(it)
 
     def attempt(self, it: Attempt) -> None:
@@ -100,12 +104,11 @@ class News:
         if self.follower:
             self.follower.close()
             self.follower = None
-        has_begun = self.has_looked
         with suppress(End, OSError):
-            self.take(said_now(self.program, self.settings.run)) if has_begun else self.look()
+            self.take(said_now(self.program, self.settings.run))
         self.event("end", status=self.status, counts=self.found.counts)
         self.notify("end", AMO_STATUS="" if self.status is None else str(self.status))
-        if has_begun:  # else the numbers are those of the crew that has the folder
+        if self.has_looked:  # else the numbers are those of the crew that has the folder
             self.numbers(False)
         until = time.monotonic() + PATIENCE
         while self.children and time.monotonic() < until:

@@ -75,8 +75,14 @@ class Crews(unittest.TestCase):
         self.assertNotIn("it waits for", said)
         self.assertEqual(self.text(self.told), "end 0\n")
 
+    def test_a_program_that_is_killed_is_named(self):
+        self.put("worker", "#!/bin/sh\nkill -9 $$\n")
+        code, said = self.ended(self.words())
+        self.assertEqual(code, 71, said)
+        self.assertIn("/worker`: it was ended by SIGKILL; ", said)
+
     def test_a_crew_that_is_refused_notes_no_command(self):
-        # `doubts` looks for the first crew's output where that note says.
+        # `doubts` looks for the first crew's output in the folder of that note.
         os.mkdir(f"{self.list}.run")
         self.put("list.run/id", f"{ID}\n")
         self.put("worker", WORKER.replace("mkdir", "test -d"))

@@ -215,6 +215,9 @@ class Steps(unittest.TestCase):
         said = self.report(reports.ASKED, code=signal.SIGTERM)[0].text
         self.assertEqual(said, "worker 1: its runner got SIGTERM, so no further job is started")
 
+    def test_a_runner_that_is_ended_by_a_signal_without_a_name(self):
+        self.assertIn("its runner was ended by signal 35", self.take(RunnerEnded(1, -35))[0].text)
+
     def test_the_others_hear_of_a_round(self):
         self.assertEqual(self.report(reports.ROUND), [Order(2, "news")])
         self.state.numbers[2].phase = Phase.PAUSES

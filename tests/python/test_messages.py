@@ -8,7 +8,7 @@ from unittest import mock
 import package  # noqa: F401
 
 from amo_jobs import messages
-from amo_jobs.messages import REMEDIES, End, lowered, reason, refused, visible
+from amo_jobs.messages import REMEDIES, End, lowered, reason, refused, signal_name, visible
 from amo_jobs.statuses import Status
 
 
@@ -63,6 +63,9 @@ class Reasons(unittest.TestCase):
                          " start again")
         self.assertEqual(reason(OSError(errno.EIO, "Broken", 7)),
                          "a call of the system: broken; check the disk")
+
+    def test_a_signal_without_a_name_has_its_number(self):
+        self.assertEqual([signal_name(it) for it in (15, 35)], ["SIGTERM", "signal 35"])
 
     def test_a_closed_pipe_is_standard_output(self):
         self.assertEqual(reason(BrokenPipeError(errno.EPIPE, "Broken pipe")),

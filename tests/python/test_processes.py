@@ -97,8 +97,8 @@ class Processes(unittest.TestCase):
                 self.addCleanup(os.close, file)
             one, two = files  # each has the other's number
             shows = f"cat /proc/self/fd/{one} /proc/self/fd/{two} /proc/self/fd/0 > {room}/shown"
-            calls.spawn([b"sh", b"-c", shows.encode()], {one: two, two: one})
-            until(lambda: calls.reap()[0])
+            number, ended = calls.spawn([b"sh", b"-c", shows.encode()], {one: two, two: one}), {}
+            until(lambda: ended.update(calls.reap()[0]) or number in ended)
             with open(f"{room}/shown", "rb") as file:
                 self.assertEqual(file.read(), b"ba")
 
@@ -210,6 +210,17 @@ class Processes(unittest.TestCase):
         self.assertEqual(len(send.mock_calls), 1)
         self.assertEqual(told, ["process 4711 (no words): it can't be sent a signal: not permitted;"
                                 " wait for its end, or end it as its user"])
+
+    def test_a_want_of_descriptors_is_no_refusal(self):
+        told = []
+        signals, process = Signals(told.append), [Process(4711, 1)]
+        with mock.patch.object(calls, "send", side_effect=OSError(24, "Too many")) as send:
+            for _ in range(2):
+                signals.send(signal.SIGTERM, lambda: process)
+        self.assertEqual((len(send.mock_calls), told), (2, []))
+
+    def test_processes_that_cannot_be_seen_end_no_sender(self):
+        Signals(print).send(signal.SIGTERM, mock.Mock(side_effect=OSError(75, "Overflow")))
 
     def test_no_other_process_gets_a_signal(self):
         number = self.start(SLEEPS)
