@@ -6,23 +6,19 @@ ghost use Rattle.amo_run_files.specs.Refusals.{IsTaken};
 ghost use Rattle.amo_admission.specs.Grown.{IsWhyNotGrown};
 
 use amo_run_dir::{known, record_of};
-use amo_run_faults::{Fault, Item, ListSettings, Setting, had};
+use amo_run_faults::{Fault, Item, Setting, had};
 use amo_run_files::{Jobs, JobsFault, first_difference};
 use std::alloc::Global;
 use std::fs;
 use std::rt::HostRuntime;
 
-/// Checks that the jobs' file can be that of this run.
+/// Checks that the jobs' file of this path can be that of this run.
 ///
 /// # Errors
 ///
 /// The fault of a jobs' file that can't be, or of a file that can't be read.
-pub(crate) fn check_jobs(
-    rt: HostRuntime,
-    setting: &Setting<'_>,
-    jobs: &ListSettings<'_>,
-) -> Result<(), Fault> {
-    let list = had(Item::List, fs::read(&rt, jobs.list))?;
+pub(crate) fn check_jobs(rt: HostRuntime, setting: &Setting<'_>, list: &str) -> Result<(), Fault> {
+    let list = had(Item::List, fs::read(&rt, list))?;
     let last = record_of(rt, setting)?;
     let known = known(rt, setting, last.as_ref())?;
     grown(rt.alloc(), &known, &list, last.is_some())?;

@@ -1,6 +1,6 @@
 //! The names of a run's files.
 ghost use Rattle.std.specs.Prelude.{◌≡◌, option_map};
-ghost use Rattle.amo_admission.specs.Names.{behind, behind_digits, first_refused, fits, is_beside, is_digit, is_first, is_high_journal, is_low_journal, is_numbered, is_plain, is_refused, kind_of};
+ghost use Rattle.amo_door.specs.Names.{behind, behind_digits, first_refused, fits, is_beside, is_digit, is_first, is_high_journal, is_low_journal, is_numbered, is_plain, is_refused, kind_of};
 
 /// The kind of a name in a folder.
 #[derive(Clone, Copy, PartialEq, Eq)]
@@ -14,16 +14,16 @@ pub(crate) enum Kind {
 }
 
 /// A file in a folder.
-#[derive(Drop)]
-pub(crate) struct Named {
+#[derive(Debug, Drop)]
+pub struct FolderFile {
     pub name: String,
-    pub kind: Kind,
-    /// How many bytes it has. None if it is no plain file.
+    /// How many bytes it has, if it is a plain file whose name is one of the first files. Else it
+    /// is `None`.
     pub len: Option<u64>,
 }
 
 /// Returns the kind of a name in a folder.
-pub(crate) fn kind_of(name: &[u8]) -> Kind
+fn kind_of(name: &[u8]) -> Kind
     ensures { result ≡ kind_of name.now }
 {
     if is_first(name) {
@@ -36,7 +36,7 @@ pub(crate) fn kind_of(name: &[u8]) -> Kind
 }
 
 /// Returns true if a door makes a file of this name before it makes the id.
-fn is_first(name: &[u8]) -> bool
+pub fn is_first(name: &[u8]) -> bool
     ensures { result ≡ is_first name.now }
 {
     name == b"lock.round".as_slice()
@@ -166,11 +166,11 @@ fn behind_digits(name: &[u8]) -> &[u8]
 
 /// Returns the first file by which a folder can't be that of a new run. A door makes such a file
 /// later than the others or never, or it is an earlier one that has more than a byte.
-pub(crate) fn first_refused(found: &[Named]) -> Option<&Named>
+pub(crate) fn first_refused(found: &[FolderFile]) -> Option<&FolderFile>
     ensures { option_map (λ file. file.now) result ≡ first_refused found.now }
 {
     for (i, file) in found.iter().enumerate() {
-        if is_refused(file.kind, file.len) {
+        if is_refused(kind_of(file.name.as_str().as_bytes()), file.len) {
             return Some(file);
         }
     }

@@ -1,9 +1,9 @@
 -- Which names in a folder are those of a run's files, and whether a run can be made there.
-use Rattle.std.specs.Prelude.{ℕ, Bool, true, false, ◌&&◌, ◌||◌, ◌==◌, nat_le, nat_lt, List, [], ◌∷◌, codes, Option, Some, None, if◌then◌else◌}
+use Rattle.std.specs.Prelude.{ℕ, Bool, true, false, ◌&&◌, ◌||◌, ◌==◌, nat_le, nat_lt, List, [], ◌∷◌, codes, Option, Some, None, if◌then◌else◌, string_bytes}
 use Rattle.std.specs.Str.{bytes_eq}
-use Rattle.amo_admission.specs.declared.names.Kind.{Kind}
-use Rattle.amo_admission.specs.declared.names.Kind.TheVariants.{Free, First, Later}
-use Rattle.amo_admission.specs.declared.names.Named.{Named}
+use Rattle.amo_door.specs.declared.names.Kind.{Kind}
+use Rattle.amo_door.specs.declared.names.Kind.TheVariants.{Free, First, Later}
+use Rattle.amo_door.specs.declared.names.FolderFile.{FolderFile}
 
 -- a digit from 0 to 9
 abbrev pub is_digit : ℕ → Bool
@@ -78,6 +78,6 @@ is_refused First None = true
 is_refused Later len = true
 
 -- the first such file
-abbrev pub first_refused : List Named → Option Named
+abbrev pub first_refused : List FolderFile → Option FolderFile
 first_refused [] = None
-first_refused (file ∷ files) = if is_refused file.kind file.len then Some file else first_refused files
+first_refused (file ∷ files) = if is_refused (kind_of (string_bytes file.name)) file.len then Some file else first_refused files

@@ -1,0 +1,7 @@
+pub mod Calls
+pub mod Files
+pub mod Halting
+pub mod Names
+pub mod Phase
+pub mod Protocol
+pub mod Versions
