@@ -1,3 +1,6 @@
 -- Lemmas of `amo_door`, by subject. Folders have the proofs of functions, by module.
+pub mod Checks
 pub mod Journals
+pub mod Known
+pub mod Quiet
 pub mod Steps

@@ -4,4 +4,5 @@ pub mod Halting
 pub mod Names
 pub mod Phase
 pub mod Protocol
+pub mod Rules
 pub mod Versions

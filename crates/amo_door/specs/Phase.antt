@@ -27,7 +27,7 @@ pub data Phase : Type 0 where
   Filled : Phase
   -- It has synced that folder since then.
   Synced : Phase
-  -- Making that folder has failed. What was made is to be removed.
+  -- Making that folder has failed. It has to be removed.
   Fails : Phase
   -- It has removed what was made.
   Removed : Phase

@@ -57,7 +57,7 @@ abbrev pub above_on : (into : Bool) → Call → Phase
 above_on into ListIsTaken = Makes into
 above_on into c = Ended
 
--- The phase after the call that makes the folder without files, or draws a name for one beside it.
+-- The phase after the call that makes the folder without files, or draws a name for a whole one.
 abbrev pub makes_on : (into : Bool) → Call → Phase
 makes_on true FolderIsMade = Looks (Make false)
 makes_on false (NameIsDrawn place) = Beside
@@ -375,7 +375,7 @@ phase_after (Refuses why) c = Ended
 phase_after (RefusesFile name) c = Ended
 phase_after Ended c = Ended
 
--- It may make the folder without files, or draw a name for a whole one beside it.
+-- It may make the folder without files, or draw a name in the folder above for a whole one.
 abbrev pub MayMake : (into : Bool) → Request → Type 0
 MayMake true r = r ≡ MakeFolder
 MayMake false r = r ≡ DrawName P.Above
@@ -394,7 +394,7 @@ abbrev pub MayPut : (left : List RunFile) → Request → Type 0
 MayPut [] r = r ≡ SyncFolder
 MayPut (f ∷ left) r = r ≡ Measure f
 
--- One who works there may sync the folder above. Who reads or writes there calls nothing more.
+-- A door that lets a worker in may sync the folder above. Else it calls nothing more.
 abbrev pub MayEnter : Purpose → Request → Type 0
 MayEnter Enter r = r ≡ SyncAbove
 MayEnter p r = ⊥

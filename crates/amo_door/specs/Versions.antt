@@ -1,5 +1,5 @@
 -- Which version has written a record, by its first line.
-use Rattle.std.specs.Prelude.{ℕ, Bool, false, not, ◌||◌, List, [], ◌∷◌, ◌++◌, codes, length, take, Option, Some, None, if◌then◌else◌}
+use Rattle.std.specs.Prelude.{ℕ, Bool, false, not, ◌||◌, List, codes, length, take, Option, Some, None, if◌then◌else◌}
 use Rattle.std.specs.Str.{bytes_eq}
 use Rattle.amo_door.specs.declared.halt.Refusal.{Refusal}
 use Rattle.amo_door.specs.declared.halt.Refusal.TheVariants.{NoId, LostId, OldRun}

@@ -77,7 +77,8 @@ pub trait DoorHost {
         ensures done { OnOk result (Moves (stands self.old) (stands self.new) ListIsTaken) }
         ensures fails { OnErr result (Moves (stands self.old) (stands self.new) (Fell CheckList)) };
 
-    /// Draws a name in this folder that nobody else has. What is made there has that name first.
+    /// Draws a name in this folder that nobody else has. A file or folder that is made there has
+    /// that name first.
     fn draw_name(&mut self, place: Place) -> Result<(), Failed>
         requires { MayCall (stands self.old) (DrawName place) }
         ensures done { OnOk result (Moves (stands self.old) (stands self.new) (NameIsDrawn place)) }
@@ -138,15 +139,15 @@ pub trait DoorHost {
         requires { MayCall (stands self.old) Unlock }
         ensures { Moves (stands self.old) (stands self.new) HasUnlocked };
 
-    /// Makes a file of the run with these bytes, unless something has its name: whole and synced
-    /// under the name that was drawn, which gets the file's name by a link.
+    /// Makes a file of the run with these bytes, unless something has its name. The file is made
+    /// whole and synced under the name that was drawn, and gets its own name by a link.
     fn put(&mut self, file: RunFile, bytes: &[u8]) -> Result<(), Failed>
         requires { MayCall (stands self.old) (Put file bytes.now) }
         ensures done { OnOk result (Moves (stands self.old) (stands self.new) (HasPut file bytes.now)) }
         ensures fails { OnErr result (Moves (stands self.old) (stands self.new) (Fell (Put file bytes.now))) };
 
-    /// Puts a file with these bytes in the place of a file of the run: whole and synced under the
-    /// name that was drawn, and then renamed.
+    /// Puts a file with these bytes in the place of a file of the run. The new file is made whole
+    /// and synced under the name that was drawn, and then renamed.
     fn replace(&mut self, file: RunFile, bytes: &[u8]) -> Result<(), Failed>
         requires { MayCall (stands self.old) (Replace file bytes.now) }
         ensures done { OnOk result (Moves (stands self.old) (stands self.new) (HasReplaced file bytes.now)) }

@@ -32,7 +32,7 @@ pub(crate) fn make_beside<H: DoorHost>(host: &mut H) -> Result<(), Halt>
 /// Removes what was made of the folder. Then the one of another process is taken, if there is one.
 ///
 /// # Errors
-/// `Host` if there is none, or the call failed.
+/// `Host` if nobody has made one, or the call failed.
 fn give_up<H: DoorHost>(host: &mut H) -> Result<(), Halt>
     requires fails { H.stands host.old Fails }
     ensures looks { OnOk result (H.stands host.new (Looks (Purpose.Make false))) }

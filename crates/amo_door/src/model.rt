@@ -1,6 +1,6 @@
-//! What is asked of a door, and the files and folders of which its calls speak.
+//! The task of a door, and the files and folders of which its calls speak.
 
-/// What is asked of a door.
+/// The task of a door.
 #[derive(Clone, Copy, Debug, PartialEq, Eq)]
 pub struct Asked {
     /// True if a new run is to be made in the folder of this name. Then a folder that has an id is
@@ -10,7 +10,7 @@ pub struct Asked {
     pub is_named: bool,
 }
 
-/// What a folder is looked at for.
+/// The reason for which a folder is looked at.
 #[derive(Clone, Copy, Debug, PartialEq, Eq)]
 pub enum Purpose {
     /// To make a run there if it has none. True if the id of a run is named: then nothing is made.

@@ -16,15 +16,15 @@ use crate::model::{Asked, Place, Purpose};
 ///
 /// The protocol states these rules, and the call keeps them, wherever the process is killed:
 ///
-/// - Nothing is made in a folder before it was checked: it is this user's, its file system is
-///   taken, its version fits, and it has no file by which it can't be that of a new run. If the id
+/// - Nothing is made in a folder before it was checked. It is this user's, its file system is
+///   taken, and its version fits. It has no file by which it can't be that of a new run. If the id
 ///   of a run is named, nothing is made at all.
 /// - In a folder that is there, files are made under the lock of the round, once the id was looked
 ///   for and the folder was checked under that lock. Only the lock's own file is made before.
 /// - The id comes after `lock.round`, the answers and the journals of all workers. The folder is
 ///   synced between them, and after the id. A file that has a byte is never replaced.
-/// - A folder that isn't there is made whole under another name, synced, and then renamed. What was
-///   made is removed if that fails.
+/// - A folder that isn't there is made whole under another name, synced, and then renamed. If that
+///   fails, it is removed.
 /// - It succeeds only if the folder was checked and is whole, the folder above was synced, and then
 ///   the list was checked.
 ///

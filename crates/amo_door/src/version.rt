@@ -1,4 +1,4 @@
-//! What a folder's record says of the version that has written it.
+//! The version that has written a folder's record.
 ghost use Rattle.std.specs.Prelude.{◌≡◌, option_map};
 ghost use Rattle.amo_door.specs.Versions.{begins_with, is_lost, lost_id, version_of};
 
