@@ -21,12 +21,12 @@ use Rattle.amo_door.specs.Rules.{Sight, SeesNothing, SeesAbove, SeesAboveList, S
 use Rattle.amo_door.specs.Versions.{is_lost, version_of}
 
 -- what was seen before files are made, without the lock or with it
-abbrev before_lock : (locked : Bool) → Sight
+abbrev pub before_lock : (locked : Bool) → Sight
 before_lock false = SeesVersion
 before_lock true = SeesList
 
 -- what was seen
-abbrev Sees : Phase → Sight → Type 0
+abbrev pub Sees : Phase → Sight → Type 0
 Sees (Above into) s = s ≡ SeesAbove
 Sees (Makes into) s = s ≡ SeesAboveList
 Sees Beside s = s ≡ SeesAboveList
@@ -280,7 +280,7 @@ entered_seen s ListIsTaken = tt
 entered_seen s c = tt
 
 -- what was seen after one call more
-step_seen : (ph : Phase) (s : Sight) (c : Call) → Sees ph s → Allows ph (request_of c) → Sees (phase_after ph c) (sight_after s c)
+pub step_seen : (ph : Phase) (s : Sight) (c : Call) → Sees ph s → Allows ph (request_of c) → Sees (phase_after ph c) (sight_after s c)
 step_seen (Begins asked) s c it may = begins_seen asked s c
 step_seen (Found named) s c it may = found_on_seen named s c
 step_seen (Absent into) s c it may = absent_on_seen into s c may

@@ -1,5 +1,6 @@
 -- Lemmas of `amo_door`, by subject. Folders have the proofs of functions, by module.
 pub mod Checks
+pub mod Entering
 pub mod Journals
 pub mod Known
 pub mod Quiet

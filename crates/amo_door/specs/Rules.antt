@@ -1,15 +1,15 @@
 -- Rules that the calls of a door keep. They speak of calls alone, and of no phase.
-use Rattle.std.specs.Prelude.{◌≡◌, ℕ, Bool, true, false, ◌==◌, List, [], ◌∷◌, ◌++◌, Option, Some, None}
+use Rattle.std.specs.Prelude.{◌≡◌, ℕ, Bool, true, false, ◌&&◌, ◌==◌, List, [], ◌∷◌, ◌++◌, Option, Some, None}
 use Rattle.amo_door.specs.declared.model.RunFile.{RunFile}
-use Rattle.amo_door.specs.declared.model.RunFile.TheVariants.{Round, Id}
+use Rattle.amo_door.specs.declared.model.RunFile.TheVariants.{Round, Id, Forgotten}
 use Rattle.amo_door.specs.declared.names.FolderFile.{FolderFile}
 use Rattle.amo_door.specs.declared.model.Place.{Place}
 use Rattle.amo_door.specs.declared.model.Place.TheVariants as P
 use Rattle.amo_door.specs.declared.version.Version.{Version}
 use Rattle.amo_door.specs.declared.version.Version.TheVariants as V
 use Rattle.amo_door.specs.Calls.{Request, MakeFolder, MakeBeside, MakeFile, Rename, RemoveBeside, Put, Replace}
-use Rattle.amo_door.specs.Calls.{Call, IsThere, IsFolder, IsOwn, DiskIsTaken, RecordIs, HasId, LenIs, FilesAre, ListIsTaken, NameIsDrawn, IdIs, FileIsMade, BesideIsSynced, Tried, HasUnlocked, HasPut, HasReplaced, FolderIsSynced, request_of}
-use Rattle.amo_door.specs.Files.{first_files}
+use Rattle.amo_door.specs.Calls.{Call, IsThere, IsFolder, IsOwn, DiskIsTaken, RecordIs, HasId, LenIs, FilesAre, ListIsTaken, NameIsDrawn, IdIs, FileIsMade, AboveIsSynced, BesideIsSynced, Tried, HasUnlocked, HasPut, HasReplaced, FolderIsSynced, request_of}
+use Rattle.amo_door.specs.Files.{first_files, has_byte}
 use Rattle.amo_door.specs.Names.{first_refused}
 use Rattle.amo_door.specs.Versions.{version_of}
 
@@ -241,3 +241,59 @@ IsChecked s r = Unit {0}
 abbrev pub AreChecked : Sight → List Call → Type 0
 AreChecked s [] = Unit {0}
 AreChecked s (c ∷ cs) = IsChecked s (request_of c) × AreChecked (sight_after s c) cs
+
+-- How far a door has come in a folder that has an id.
+pub data Entry : Type 0 where
+  Outside : Entry
+  -- The folder was checked, and its id was found after that.
+  HasRun : Entry
+  -- Then it has seen that the run wasn't given up, and has found these files, each with its byte.
+  Finds : (files : List RunFile) → Entry
+  -- Then it has synced the folder above.
+  Syncs : (files : List RunFile) → Entry
+  -- Then it has checked the list.
+  Passes : (files : List RunFile) → Entry
+
+-- Once the id was looked for.
+abbrev pub entry_by_id : Sight → (it : Bool) → Entry
+entry_by_id SeesVersion true = HasRun
+entry_by_id s it = Outside
+
+-- Once a file was looked for, by whether it has lost its byte.
+abbrev pub entry_if : (files : List RunFile) → RunFile → (is_lost : Bool) → Entry
+entry_if files file true = Outside
+entry_if files file false = Finds (files ++ file ∷ [])
+
+-- Once `forgotten` or another file was looked for.
+abbrev pub entry_by_file : RunFile → Option ℕ → Entry
+entry_by_file Forgotten None = Finds []
+entry_by_file file len = Outside
+
+-- Once a file was looked for.
+abbrev pub entry_by_len : Entry → RunFile → Option ℕ → Entry
+entry_by_len HasRun file len = entry_by_file file len
+entry_by_len (Finds files) file (Some len) = entry_if files file (has_byte file && (len == 0))
+entry_by_len e file len = Outside
+
+-- Once the folder above was synced.
+abbrev pub entry_by_sync : Entry → Entry
+entry_by_sync (Finds files) = Syncs files
+entry_by_sync e = Outside
+
+-- Once the list was checked.
+abbrev pub entry_by_list : Entry → Entry
+entry_by_list (Syncs files) = Passes files
+entry_by_list e = Outside
+
+-- How far it has come after a call.
+abbrev pub entry_after : Sight → Entry → Call → Entry
+entry_after s e (HasId it) = entry_by_id s it
+entry_after s e (LenIs file len) = entry_by_len e file len
+entry_after s e AboveIsSynced = entry_by_sync e
+entry_after s e ListIsTaken = entry_by_list e
+entry_after s e c = Outside
+
+-- How far it has come after all of these calls.
+abbrev pub entry_after_all : Sight → Entry → List Call → Entry
+entry_after_all s e [] = e
+entry_after_all s e (c ∷ cs) = entry_after_all (sight_after s c) (entry_after s e c) cs

@@ -3,9 +3,10 @@
 ghost use Rattle.std.specs.Prelude.{◌≡◌, List, [], ◌∷◌, ◌++◌, true};
 ghost use Rattle.amo_door.specs.declared.model.Asked.{Asked};
 ghost use Rattle.amo_door.specs.Calls.{Request, Call, request_of};
-ghost use Rattle.amo_door.specs.Phase.{Phase, Begins};
-ghost use Rattle.amo_door.specs.Protocol.{AreAllowed, MayCall, Moves, Stands};
-ghost use Rattle.amo_door.specs.Rules.{AreChecked, KeepRules, MakeNothing, SeesNothing, no_facts};
+ghost use Rattle.amo_door.specs.Files.{first_files};
+ghost use Rattle.amo_door.specs.Phase.{Phase, Begins, Done};
+ghost use Rattle.amo_door.specs.Protocol.{phase_after_all, AreAllowed, MayCall, Moves, Stands};
+ghost use Rattle.amo_door.specs.Rules.{Outside, Passes, SeesNothing, entry_after_all, no_facts, AreChecked, KeepRules, MakeNothing};
 
 /// States that a process that records its calls is in the phase after them: each call more that is
 /// allowed moves it on, as `DoorHost` ensures of each method.
@@ -43,4 +44,12 @@ pub fn files_are_made_in_order()
 /// be there, and the list can be a run's.
 pub fn nothing_is_made_before_it_is_checked()
     ensures { (asked : Asked) (cs : List Call) → AreAllowed (Begins asked) cs → AreChecked SeesNothing cs }
+{}
+
+/// States that a door that succeeds has entered the folder, if each of its calls is allowed. Its
+/// last calls show a checked folder with an id. Then they show that the run was not given up, and
+/// each file that was made with the id. Then the folder above was synced, and last the list was
+/// checked.
+pub fn a_door_that_succeeds_has_entered()
+    ensures { (asked : Asked) (cs : List Call) → AreAllowed (Begins asked) cs → phase_after_all (Begins asked) cs ≡ Done → entry_after_all SeesNothing Outside cs ≡ Passes first_files }
 {}
