@@ -1,4 +1,6 @@
 //! The operating system, as a door has it: a run's folder, the folder above, and the user's list.
+ghost use Rattle.std.specs.Prelude.{◌≡◌};
+
 use crate::disk::check_file_system;
 use crate::list::check_jobs;
 use amo_door::{DoorHost, Failed, FolderFile, Halt, Place, Refusal, RunFile, is_first};
