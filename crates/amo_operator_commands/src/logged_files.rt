@@ -1,24 +1,25 @@
 //! An operator's files whose calls are noted in a log, if the environment names one.
 ghost use Rattle.std.specs.Prelude.{◌≡◌};
 
-use amo_call_log::{CallLog, End, Words, ended, recovered};
+use amo_call_log::{Call, CallLog, Came, End, ended, recovered};
 use amo_host::{Failed, LogFile};
 use amo_operator::{OperatorHost, OperatorLock};
 use amo_operator_files::OperatorFiles;
 use amo_run_files::{Jobs, RoundFile};
-use amo_run_log::{Entry, Finding, Outcome};
+use amo_run_log::Finding;
 use amo_status::AttemptId;
+use std::fs::File;
 
 /// The files of a run, and the log of the calls by which an operator's command writes them.
 #[derive(Drop)]
 pub(crate) struct LoggedFiles<'a> {
     pub inner: OperatorFiles<'a>,
-    log: Option<CallLog>,
+    log: Option<CallLog<File>>,
 }
 
 impl<'a> LoggedFiles<'a> {
     /// Returns these files, with this log.
-    pub(crate) fn new(inner: OperatorFiles<'a>, log: Option<CallLog>) -> LoggedFiles<'a> {
+    pub(crate) fn new(inner: OperatorFiles<'a>, log: Option<CallLog<File>>) -> LoggedFiles<'a> {
         LoggedFiles { inner, log }
     }
 
@@ -30,10 +31,18 @@ impl<'a> LoggedFiles<'a> {
         }
     }
 
-    /// Notes a call on one side of it. Fails if the log has failed, so that the process ends.
-    fn note(&mut self, side: &str, call: &str, words: Words<'_>) -> Result<(), Failed> {
+    /// Notes a call before it is made. Fails if the log has failed, so that the process ends.
+    fn before(&mut self, call: Call<'_>) -> Result<(), Failed> {
         match &mut self.log {
-            Some(log) => log.note(side, call, words),
+            Some(log) => log.before(call),
+            None => Ok(()),
+        }
+    }
+
+    /// Notes what came of a call. Fails if the log has failed, so that the process ends.
+    fn after(&mut self, call: Call<'_>, came: Came<'_>) -> Result<(), Failed> {
+        match &mut self.log {
+            Some(log) => log.after(call, came),
             None => Ok(()),
         }
     }
@@ -67,12 +76,10 @@ impl<'a> OperatorHost for LoggedFiles<'a> {
     }
 
     fn recover(&mut self, log: LogFile, last: Option<&RoundFile>) -> Result<Vec<Vec<u8>>, Failed> {
-        self.note("before", "recover", Words::Log(log))?;
+        let call = Call::Recover(log);
+        self.before(call)?;
         let appends = self.inner.recover(log, last);
-        match log {
-            LogFile::Answers => self.note("after", "recover", ended(&appends))?,
-            LogFile::Journal(_) => self.note("after", "recover", recovered(&appends))?,
-        }
+        self.after(call, recovered(log, &appends))?;
         appends
     }
 
@@ -85,13 +92,10 @@ impl<'a> OperatorHost for LoggedFiles<'a> {
     }
 
     fn put_doubt(&mut self, attempt: AttemptId, time: u64) -> Result<(), Failed> {
-        let entry = Entry::Answer {
-            serial: attempt.serial,
-            answer: Outcome::Doubt { time },
-        };
-        self.note("before", "put_doubt", Words::Entry(entry))?;
+        let call = Call::PutDoubt(attempt.serial, time);
+        self.before(call)?;
         let done = self.inner.put_doubt(attempt, time);
-        self.note("after", "put_doubt", ended(&done))?;
+        self.after(call, ended(&done))?;
         done
     }
 
@@ -100,9 +104,10 @@ impl<'a> OperatorHost for LoggedFiles<'a> {
     }
 
     fn put_answer(&mut self, answer: Finding) -> Result<(), Failed> {
-        self.note("before", "put_answer", Words::Answer(answer))?;
+        let call = Call::PutAnswer(answer);
+        self.before(call)?;
         let done = self.inner.put_answer(answer);
-        self.note("after", "put_answer", ended(&done))?;
+        self.after(call, ended(&done))?;
         done
     }
 

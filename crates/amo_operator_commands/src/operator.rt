@@ -1,6 +1,6 @@
 //! The commands of an operator, over the files of a run.
 use crate::logged_files::LoggedFiles;
-use amo_call_log::{CallLog, End};
+use amo_call_log::{End, begin};
 use amo_host_parts::item_of_log;
 use amo_operator::{Command, Halt, run};
 use amo_operator_files::OperatorFiles;
@@ -23,7 +23,7 @@ pub fn carry_out(
     age: Age,
     command: &Command,
 ) -> Result<(), End> {
-    let log = CallLog::begin(rt, 0, setting.run)?;
+    let log = begin(rt, 0, setting.run)?;
     let mut files = LoggedFiles::new(OperatorFiles::new(rt, setting, age), log);
     let ran = run(&mut files, rt.alloc(), command);
     ended(ran, &mut files)

@@ -1,23 +1,24 @@
 //! A host whose calls are noted in a log, if the environment names one.
 ghost use Rattle.std.specs.Prelude.{◌≡◌};
 
-use amo_call_log::{CallLog, End, Words, ended, heard, recovered};
+use amo_call_log::{Call, CallLog, Came, End, ended, heard, recovered};
 use amo_host::{Failed, Hold, Host, LogFile, LogPart, Registers, RunLock};
 use amo_run_files::{HashedJobs, RoundFile};
 use amo_run_host::RunHost;
 use amo_run_log::{AttemptId, Entry};
+use std::fs::File;
 
 /// The files of a run and the runner, and the log of the calls on them. The log has those calls
 /// that write the journal, look for clearance, and speak with the runner.
 #[derive(Drop)]
 pub(crate) struct LoggedHost<'a> {
     pub inner: RunHost<'a>,
-    log: Option<CallLog>,
+    log: Option<CallLog<File>>,
 }
 
 impl<'a> LoggedHost<'a> {
     /// Returns this host, with this log.
-    pub(crate) fn new(inner: RunHost<'a>, log: Option<CallLog>) -> LoggedHost<'a> {
+    pub(crate) fn new(inner: RunHost<'a>, log: Option<CallLog<File>>) -> LoggedHost<'a> {
         LoggedHost { inner, log }
     }
 
@@ -29,10 +30,18 @@ impl<'a> LoggedHost<'a> {
         }
     }
 
-    /// Notes a call on one side of it. Fails if the log has failed, so that the process ends.
-    fn note(&mut self, side: &str, call: &str, words: Words<'_>) -> Result<(), Failed> {
+    /// Notes a call before it is made. Fails if the log has failed, so that the process ends.
+    fn before(&mut self, call: Call<'_>) -> Result<(), Failed> {
         match &mut self.log {
-            Some(log) => log.note(side, call, words),
+            Some(log) => log.before(call),
+            None => Ok(()),
+        }
+    }
+
+    /// Notes what came of a call. Fails if the log has failed, so that the process ends.
+    fn after(&mut self, call: Call<'_>, came: Came<'_>) -> Result<(), Failed> {
+        match &mut self.log {
+            Some(log) => log.after(call, came),
             None => Ok(()),
         }
     }
@@ -67,9 +76,10 @@ impl<'a> Host for LoggedHost<'a> {
 
     fn recover(&mut self, last: Option<&RoundFile>) -> Result<Vec<Vec<u8>>, Failed> {
         let log = self.inner.own_log();
-        self.note("before", "recover", Words::Log(log))?;
+        let call = Call::Recover(log);
+        self.before(call)?;
         let appends = self.inner.recover(last);
-        self.note("after", "recover", recovered(&appends))?;
+        self.after(call, recovered(log, &appends))?;
         appends
     }
 
@@ -114,37 +124,42 @@ impl<'a> Host for LoggedHost<'a> {
     }
 
     fn put(&mut self, entry: Entry) -> Result<(), Failed> {
-        self.note("before", "put", Words::Entry(entry))?;
+        let call = Call::Put(entry);
+        self.before(call)?;
         let done = self.inner.put(entry);
-        self.note("after", "put", ended(&done))?;
+        self.after(call, ended(&done))?;
         done
     }
 
     fn owe(&mut self, entry: Entry) -> Result<(), Failed> {
-        self.note("before", "owe", Words::Entry(entry))?;
+        let call = Call::Owe(entry);
+        self.before(call)?;
         let done = self.inner.owe(entry);
-        self.note("after", "owe", ended(&done))?;
+        self.after(call, ended(&done))?;
         done
     }
 
     fn pay(&mut self) -> Result<(), Failed> {
-        self.note("before", "pay", Words::Nothing)?;
+        let call = Call::Pay;
+        self.before(call)?;
         let done = self.inner.pay();
-        self.note("after", "pay", ended(&done))?;
+        self.after(call, ended(&done))?;
         done
     }
 
     fn read_on(&mut self, log: LogFile) -> Result<Vec<Vec<u8>>, Failed> {
-        self.note("before", "read_on", Words::Log(log))?;
+        let call = Call::ReadOn(log);
+        self.before(call)?;
         let texts = self.inner.read_on(log);
-        self.note("after", "read_on", ended(&texts))?;
+        self.after(call, ended(&texts))?;
         texts
     }
 
     fn say(&mut self, line: &[u8]) -> Result<Option<Vec<u8>>, Failed> {
-        self.note("before", "say", Words::Line(line))?;
+        let call = Call::Say(line);
+        self.before(call)?;
         let reply = self.inner.say(line);
-        self.note("after", "say", heard(&reply))?;
+        self.after(call, heard(&reply))?;
         reply
     }
 

@@ -3,7 +3,7 @@ ghost use Rattle.std.specs.Prelude.{◌≡◌};
 
 use crate::holder::holder;
 use crate::logged_host::LoggedHost;
-use amo_call_log::{CallLog, End};
+use amo_call_log::{End, begin};
 use amo_driver::Stop;
 use amo_host::RunLock;
 use amo_host_parts::item_of_log;
@@ -31,7 +31,7 @@ pub fn work(
         workers: jobs.workers,
         beta: jobs.beta,
     };
-    let log = CallLog::begin(rt, worker, setting.run)?;
+    let log = begin(rt, worker, setting.run)?;
     let host = LoggedHost::new(RunHost::new(rt, setting, jobs, worker), log);
     let process = Worker::new(host, rt.alloc(), worker, no_jobs(rt.alloc())?);
     let (process, ending) = live(process, sharing);
