@@ -120,6 +120,9 @@ class Forgetting:
         self.program.more += ["--id", run]
         found, known = self.program.status(self.folder), bytes_of(f"{self.folder}/jobs") or b""
         jobs = None if os.path.lexists(self.list) else bytes_of(self.settings.jobs)
+        if jobs is None and not os.path.lexists(self.list):
+            self.refuse("it is missing. If it was renamed, rename its mark too, and don't put its"
+                        " run away: under its new name each line would be run again")
         if jobs is not None and not jobs.startswith(known):
             self.refuse("it isn't the list that was run, and would be put away too; give it another"
                         " name")

@@ -4,7 +4,7 @@ from __future__ import annotations
 
 import collections
 from time import monotonic
-from typing import Any, Deque, Dict, Optional, Tuple
+from typing import Any, Deque, Dict, List, Optional, Tuple
 
 from amo_jobs.crew_rules import MOST_TAKEN, State
 from amo_jobs.messages import Screen
@@ -56,14 +56,20 @@ class Progress:
                     f"{outlook(pace, self.lines - closed)}")
         return self.due
 
+    def next_steps(self, found: Dict[str, Any]) -> List[str]:
+        """Returns what the operator may do about lines that aren't done."""
+        failed = next_command(self.settings, "status", "--lines", "failed")
+        steps = {"open": "for the open lines start the crew again",
+                 "failed": f"see the failed lines: {failed}",
+                 "doubt": f"see the doubts: {next_command(self.settings, 'doubts')}"}
+        return [text for state, text in steps.items() if found[state]]
+
     def conclude(self, status: Optional[int]) -> int:
         """Prints how all lines stand. Returns this status, or the one by the counts."""
         found = self.program.status(self.settings.run)
         if self.state.taken > MOST_TAKEN:
             Screen.tell(f"{self.state.taken - MOST_TAKEN} more lines were not started, since"
                         " another attempt stands against each")
-        more = next_command(self.settings, "doubts")
-        doubts = f"; see the doubts: {more}" if found["doubt"] else ""
         rows = listed(self.settings.run, found, ["running"])
-        Screen.tell("\n".join([counted(found) + doubts, *rows]))
+        Screen.tell("\n".join(["; ".join([counted(found), *self.next_steps(found)]), *rows]))
         return status_of(found, Status.LEFT) if status is None else status

@@ -138,8 +138,8 @@ def check_not_renamed(settings: Settings) -> None:
             words = shlex.join(["mv", f"{old}.run-is", settings.mark])
             raise refused(f"list `{settings.asked}`: it has the lines of the list `{old}`, which is"
                           " missing or another one now; if it was renamed, rename its mark too:"
-                          f" {words}, and give --run {shlex.quote(mark.folder)}. Else put that run"
-                          f" away: {sys.argv[0]} forget {shlex.quote(old)}")
+                          f" {words}, and give --run {shlex.quote(mark.folder)}. If its lines were"
+                          " never run, put the other run away by forget")
 
 
 def refuse_other_command(settings: Settings) -> None:

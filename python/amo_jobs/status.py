@@ -14,7 +14,7 @@ from contextlib import suppress
 from typing import Any, Collection, Dict, Iterator, List, Optional
 
 from amo_jobs.files import content
-from amo_jobs.messages import confirm, visible
+from amo_jobs.messages import confirm, Screen, visible
 from amo_jobs.processes import holders
 from amo_jobs.run_folder import name_run
 from amo_jobs.settings import Settings, next_command
@@ -70,6 +70,9 @@ def doubts(settings: Settings, program: Program) -> int:
         for verdict, label in ANSWERS.items():
             print(f"  {label}\n    {next_command(settings, *words, verdict)}")
     print(f"{LOOK}\n" if found else "", end="")
+    running = 0 if found else program.status(settings.run)["running"]
+    if running:
+        Screen.tell(f"no line is in doubt, and {running} still run; ask again once they have ended")
     return Status.DONE
 
 
@@ -83,7 +86,9 @@ def answer(settings: Settings, program: Program) -> int:
         name_run(settings, program)
         quiet = ["--now"] if settings.now else ["--quiet", str(settings.quiet)]
         program.call("answer", settings.run, *quiet, "--from", settings.source or file.name)
-    confirm("recorded")
+    name, line, text, verdict = settings.words or ["", "", "", ""]
+    ends = "is open again" if verdict == "not-done" else "is done, and never run again"
+    confirm(f"recorded: line {line} {ends}: {visible(text)}" if name else "recorded")
     return Status.DONE
 
 

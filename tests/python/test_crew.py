@@ -81,6 +81,15 @@ class Crews(unittest.TestCase):
         self.assertEqual(code, 71, said)
         self.assertIn("/worker`: it was ended by SIGKILL; ", said)
 
+    def test_doubts_report_that_lines_still_run(self):
+        self.ended(self.words())
+        none = WORKER.replace("status*)", "doubts*) echo '[]' ;;\nstatus*)")
+        for count, said in ((0, ""), (2, "amo_jobs: no line is in doubt, and 2 still run; ask again"
+                                         " once they have ended\n")):
+            self.put("worker", none.replace('"running":0', f'"running":{count}'))
+            words = [*self.words()[:3], "doubts", *self.words()[6:8], self.list]
+            self.assertEqual(self.ended(words, stdout=subprocess.DEVNULL), (0, said))
+
     def test_a_crew_that_is_refused_notes_no_command(self):
         # `doubts` looks for the first crew's output in the folder of that note.
         os.mkdir(f"{self.list}.run")

@@ -51,6 +51,17 @@ class Bars(unittest.TestCase):
                     it.show()
             return texts
 
+    def test_the_end_says_what_to_do_about_each_line_that_is_not_done(self):
+        it = types.SimpleNamespace(settings=Settings(names=["l"]))
+        found = {**dict.fromkeys(KINDS, 0), "done": 9}
+        with mock.patch("sys.argv", ["amo_jobs"]):
+            self.assertEqual(progress.Progress.next_steps(it, found), [])
+            found.update(open=1, failed=1, doubt=1)
+            self.assertEqual(progress.Progress.next_steps(it, found), [
+                "for the open lines start the crew again",
+                "see the failed lines: amo_jobs status l --lines failed",
+                "see the doubts: amo_jobs doubts l"])
+
     def test_the_pace_is_that_of_the_last_minute(self):
         found = self.shown([300, 300, 360], [60, 120, 180])
         self.assertEqual(found[0], "100 of 1000 lines, 2 running")

@@ -46,6 +46,8 @@ def try_forget_refuses(bench):
     with open(scene.jobs, "w") as file:
         file.write("another list\n")
     want("isn't the list that was run" in forget(scene, REFUSED), "another list")
+    os.unlink(scene.jobs)
+    want("it is missing. If it was renamed" in forget(scene, REFUSED), "a missing list")
     with open(scene.jobs, "w") as file:
         file.write(text)
     for name in bench.sample(["journal.1", "lock.round", "runner.16"], 1):

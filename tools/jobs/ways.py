@@ -242,7 +242,7 @@ def try_look(bench):
         want(len(answers) == 2, f"two doubts have two answers: {told}")
         for it in answers:
             ran = subprocess.run(["sh", "-c", it], **how)
-            want((ran.stdout, ran.returncode) == ("recorded\n", DONE), f"{it}: {ran.stderr}")
+            want(ran.stdout.startswith("recorded: line ") and ran.returncode == DONE, f"{it}: {ran.stderr}")
 
 
 HOSTILE = ["$(touch broken)", "INV-2 rent 700 to Ada", "it's \"2\"", "`touch broken`; touch broken | touch broken", "-rf",
@@ -281,7 +281,7 @@ def paste(scene, line):
     ran = subprocess.run(["bash", "--norc", "--noprofile", "-i"], input=f"{line}\n", text=True, cwd=room, timeout=240,
                          capture_output=True, env={**scene.environment(), "HISTFILE": "/dev/null", "PS1": ""})
     want(not os.listdir(room), f"the line runs something else: {line}: {os.listdir(room)}")
-    want((ran.stdout, ran.returncode) == ("recorded\n", DONE), f"the line isn't one whole answer: {line}: {ran.stderr[-500:]}")
+    want(re.fullmatch("recorded: line .*\n", ran.stdout) and ran.returncode == DONE, f"the line isn't one whole answer: {line}: {ran.stderr[-500:]}")
 
 
 # A row has the words of a call that fails, with ROOM for the scene's folder, its status, and the
