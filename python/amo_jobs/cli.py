@@ -73,9 +73,10 @@ def work(settings: Settings, program: Program) -> int:
     from amo_jobs import crew
     from amo_jobs.run_folder import check_list, enter, joined, note_command
     check_list(settings)
-    settings.id = (enter(settings, program, settings.id) if settings.what == "crew" and settings.id
-                   else joined(settings, program))
-    program.more += ["--id", settings.id]
+    run = (enter(settings, program, settings.id) if settings.what == "crew" and settings.id
+           else joined(settings, program))
+    settings.id = run
+    program.more += ["--id", run]
     if settings.results != settings.run:  # since the door alone makes the run's folder
         os.makedirs(settings.results, 0o700, exist_ok=True)
     if settings.what == "work":

@@ -2,16 +2,18 @@
 
 from __future__ import annotations
 
+import fcntl
 import json
 import os
 import shlex
 import stat
 import sys
+import time
 from contextlib import suppress
 from typing import Optional
 
 from amo_jobs.files import bytes_of, content, place, sync_folder
-from amo_jobs.locks import close_all, locked_soon
+from amo_jobs.locks import locked_soon, PATIENCE
 from amo_jobs.mark import ID, Mark, Row, id_of, name_beside, refusal, row_of
 from amo_jobs.messages import End, lowered, refused, visible
 from amo_jobs.settings import Settings
@@ -124,16 +126,20 @@ def check_beside(settings: Settings, remedy: str) -> None:
                       f" {lowered(error)}; {remedy}") from error
 
 
+def begins(path: str, front: bytes) -> bool:
+    """Returns whether a file is there and begins with these bytes."""
+    return os.path.isfile(path) and (bytes_of(path) or b"").startswith(front)
+
+
 def check_not_renamed(settings: Settings) -> None:
     """Refuses a list without a mark that begins with the lines of a run whose list is missing, or
     isn't its list any more: the list was renamed, and its mark wasn't."""
-    above, own = os.path.dirname(settings.jobs), bytes_of(settings.jobs) or b""
+    above = os.path.dirname(settings.jobs)
     for old in sorted(f"{above}/{it[:-7]}" for it in os.listdir(above) if it.endswith(".run-is")):
         with suppress(PermissionError):  # another user's, who alone may go on with that run
             mark = Mark.read(f"{old}.run-is")
             known = bytes_of(f"{mark.folder}/jobs") if mark and mark.folder else None
-            if not (mark and known and own.startswith(known)) or (
-                    os.path.isfile(old) and (bytes_of(old) or b"").startswith(known)):
+            if not (mark and known and begins(settings.jobs, known)) or begins(old, known):
                 continue
             words = shlex.join(["mv", f"{old}.run-is", settings.mark])
             raise refused(f"list `{settings.asked}`: it has the lines of the list `{old}`, which is"
@@ -154,11 +160,22 @@ def refuse_other_command(settings: Settings) -> None:
 def note_command(settings: Settings, version: str) -> None:
     """Records the command before a line is performed, and for a report also the options and the
     version. Of two crews that start together the later one is refused."""
-    lock = None
-    with suppress(OSError):  # a file system over a network may have no locks
-        lock = locked_soon(settings.jobs)  # None: whoever has started this crew may have it
-    refuse_other_command(settings)
-    place(f"{settings.run}/command",
-          json.dumps({"command": settings.command, "results": settings.results,
-                      "options": settings.options, "version": version}))
-    close_all([] if lock is None else [lock])
+    with open(settings.jobs, "rb") as file:
+        end = time.monotonic() + PATIENCE  # whoever has started this crew may have the lock
+        while not has_lock(file.fileno()) and time.monotonic() < end:
+            time.sleep(0.05)
+        refuse_other_command(settings)
+        place(f"{settings.run}/command",
+              json.dumps({"command": settings.command, "results": settings.results,
+                          "options": settings.options, "version": version}))
+
+
+def has_lock(file: int) -> bool:
+    """Takes the lock of an open file. Returns False if another process has it. Some file systems
+    over a network have no locks; then it returns True."""
+    with suppress(OSError):
+        try:
+            fcntl.flock(file, fcntl.LOCK_EX | fcntl.LOCK_NB)
+        except BlockingIOError:
+            return False
+    return True
