@@ -15,7 +15,7 @@ from amo_jobs.locks import close_all, NOT_GOT
 from amo_jobs.settings import Settings
 
 HOLE = b"{}"  # the word that stands for the text
-VARIABLES = (b"AMO_JOB", b"AMO_LINE")  # each command has its own
+VARIABLES = (b"AMO_JOB", b"AMO_LINE", b"AMO_RUN_ID")  # each command has its own
 LONGEST_START = 4000  # bytes; `calls.c` adds a number, and has room for PATH_MAX
 LOCK, NO_FILE = 0, 3  # places of files in `struct start`: the lock's, the outputs', and none
 SPARE = 0  # the number of a lock's file between two commands; no attempt has it
@@ -58,6 +58,7 @@ class Starter:
         words += [] if HOLE in words else [HOLE]
         self.places = [place for place, it in enumerate(words) if it == HOLE]
         others = [b"%b=%b" % it for it in os.environb.items() if it[0] not in VARIABLES]
+        others.append(b"AMO_RUN_ID=" + settings.id.encode())
         folders = [b""] if b"/" in words[0] else [os.fsencode(it) for it in os.get_exec_path()]
         handled = [it for it in signal.valid_signals() if callable(signal.getsignal(it))]
         defaults = [*handled, *IGNORED_BY_PYTHON, *([signal.SIGALRM] if timer else []), 0]

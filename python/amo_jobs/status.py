@@ -14,6 +14,7 @@ from contextlib import suppress
 from typing import Any, Collection, Dict, Iterator, List, Optional
 
 from amo_jobs.files import content
+from amo_jobs.mark import id_of
 from amo_jobs.messages import confirm, Screen, visible
 from amo_jobs.processes import holders
 from amo_jobs.run_folder import name_run
@@ -24,9 +25,10 @@ from amo_watch.texts import dated, lasting, Output, outputs_of
 
 # Each answer that the operator may give, with the text above its command.
 ANSWERS = {"done": "If it happened:", "not-done": "If it surely did not happen:"}
-# Printed below all doubts: no lock shows these processes.
+# Printed below all doubts, with the run's id: no lock shows these processes.
 LOOK = ("If a runner was killed, list the processes that its commands left, before an answer:\n"
-        "  grep -lsz ^AMO_JOB= /proc/[0-9]*/environ | cut -d/ -f3 | xargs -rn1 ps -o pid=,args= -p")
+        "  grep -lszx AMO_RUN_ID={} /proc/[0-9]*/environ | cut -d/ -f3"
+        " | xargs -rn1 ps -o pid=,args= -p")
 NO_PROCESS = "its worker is alive, or a process of another user"
 
 
@@ -69,7 +71,7 @@ def doubts(settings: Settings, program: Program) -> int:
         words = ["answer", "--", name, str(it["line"]), it["text"]]
         for verdict, label in ANSWERS.items():
             print(f"  {label}\n    {next_command(settings, *words, verdict)}")
-    print(f"{LOOK}\n" if found else "", end="")
+    print(f"{LOOK.format(id_of(settings.run))}\n" if found else "", end="")
     running = 0 if found else program.status(settings.run)["running"]
     if running:
         Screen.tell(f"no line is in doubt, and {running} still run; ask again once they have ended")

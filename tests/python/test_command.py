@@ -25,7 +25,8 @@ from package import until
 
 SHOWS = """
 import os, signal, sys
-print(sys.argv[1:], os.environ["AMO_JOB"], os.environ["AMO_LINE"], os.getsid(0) == os.getpid())
+print(sys.argv[1:], os.environ["AMO_JOB"], os.environ["AMO_LINE"], os.environ["AMO_RUN_ID"],
+      os.getsid(0) == os.getpid())
 print(sorted(os.readlink(f"/proc/self/fd/{it}").rpartition("/")[2] + f" {it}"
              for it in os.listdir("/proc/self/fd") if os.path.exists(f"/proc/self/fd/{it}")))
 """
@@ -58,7 +59,7 @@ class Case(unittest.TestCase):
         os.close(self.family.file)
 
     def commands(self, *words, **more):
-        settings = Settings(command=list(words), run=self.run, results=self.run,
+        settings = Settings(command=list(words), run=self.run, results=self.run, id="abc",
                             timeout=self.timeout, **more)
         return Starter(settings, 3)
 
@@ -112,7 +113,7 @@ class Spawned(Case):
             found = self.start(self.commands(sys.executable, "-c", SHOWS, *words), b"a  b")
             self.end(found)
             self.assertEqual(self.text(f"out.3.{self.serial}").splitlines()[0],
-                             f"{shown} a  b 7 True")
+                             f"{shown} a  b 7 abc True")
 
     def test_its_files(self):
         held = os.open(self.run, os.O_RDONLY)  # a file of the runner, which no command gets

@@ -146,11 +146,12 @@ class Ages(unittest.TestCase):
                              "ended DATE9, 1 h 2 min ago")
 
     def test_the_printed_command_finds_what_a_command_has_left(self):
-        with subprocess.Popen(["sleep", "60"], env={"AMO_JOB": "rent"}) as left, \
-                subprocess.Popen(["sleep", "60"], env={"NOT_AMO_JOB": "rent"}) as other:
+        one, another = "1" * 32, "1" * 31 + "2"
+        with subprocess.Popen(["sleep", "60"], env={"AMO_RUN_ID": one}) as left, \
+                subprocess.Popen(["sleep", "60"], env={"AMO_RUN_ID": another}) as other:
             try:
                 until(lambda: calls.words_of(left.pid) and calls.words_of(other.pid))
-                script = status.LOOK.splitlines()[1]
+                script = status.LOOK.format(one).splitlines()[1]
                 ran = subprocess.run(["bash", "-c", script], stdout=subprocess.PIPE, text=True)
                 found = [it.split() for it in ran.stdout.splitlines()]
                 self.assertIn([str(left.pid), "sleep", "60"], found)
