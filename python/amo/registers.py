@@ -276,8 +276,8 @@ def check_note(path: str, note: str) -> None:
                          " other jobs")
     if found != note:
         raise ValueError(f"`{path}`: its second line isn't `{numbers.strip()}`, the workers and"
-                         " jobs that are given; give those of the run that made it, or another"
-                         " path")
+                         " jobs that are given; give those of the run that made it. Use another"
+                         " path only for other jobs: there each job is handed out again")
 
 
 def check_streams() -> None:
@@ -309,7 +309,7 @@ def check_numbers(registers: Registers, workers: int, jobs: int) -> None:
     if isinstance(registers, Words) and registers.numbers != (workers, jobs):
         made = registers.numbers
         raise ValueError(f"registers: they were made for {made[0]} workers and {made[1]} jobs; give"
-                         " these numbers, or other registers")
+                         " these numbers, or other registers for other jobs")
 
 
 def guard_by(path: str, flags: int, number: int, lock: Callable[[int], object]) -> Guard:

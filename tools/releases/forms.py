@@ -76,7 +76,7 @@ def lay_amo(root: str, tree: str, folder: str) -> None:
     for name in (*PROGRAMS, "VERSION"):
         copy(f"{tree}/{name}", f"{folder}/{HOME}")
     shutil.copytree(f"{tree}/docs/help", f"{folder}/{HOME}/docs/help")
-    shutil.copytree(f"{tree}/docs", f"{folder}/{DOCS}/amo", dirs_exist_ok=True,
+    shutil.copytree(f"{tree}/docs", f"{folder}/{DOCS}/amo/docs",
                     ignore=shutil.ignore_patterns("help"))
     copy(f"{tree}/CHANGELOG.md", f"{folder}/{DOCS}/amo")
     copy(f"{tree}/examples/systemd/amo-crew@.service", f"{folder}/usr/lib/systemd/system")

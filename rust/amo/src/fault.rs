@@ -89,7 +89,7 @@ impl fmt::Display for Fault {
                 return write!(
                     out,
                     "registers: they were made for {workers} workers and {jobs} jobs; give these \
-                     numbers, or other registers"
+                     numbers, or other registers for other jobs"
                 )
             }
             Fault::OtherProcess(number) => {

@@ -171,7 +171,8 @@ impl Note {
             Some(numbers) if numbers == self.numbers.as_bytes() => Ok(()),
             Some(_) => Err(self.refusal(&format!(
                 "its second line isn't `{}`, the workers and jobs that are given; give those of \
-                 the run that made it, or another path",
+                 the run that made it. Use another path only for other jobs: there each job is \
+                 handed out again",
                 self.numbers.trim_end()
             ))),
             None => Err(self.refusal(
