@@ -315,13 +315,19 @@ def try_other_marks(bench):
 
 
 def try_renamed(bench):
-    """a list that was renamed is refused, and goes on once its mark is renamed too"""
+    """a list that was renamed is refused, also if its old name has another list, and goes on once
+    its mark is renamed too"""
     scene = begun(bench)
     old, scene.jobs = scene.jobs, f"{scene.room}/renamed"
     os.rename(old, scene.jobs)
-    for run in (scene.run, f"{scene.jobs}.run"):
-        told = is_refused(scene, f"mv {old}.run-is {scene.jobs}.run-is", run=run)
-        want(f"--run {scene.run}" in told and f"forget {old}" in told, told)
+    for has_other in (False, True):
+        if has_other:
+            with open(old, "w") as file:
+                file.write("another list\n")
+        for run in (scene.run, f"{scene.jobs}.run"):
+            told = is_refused(scene, f"mv {old}.run-is {scene.jobs}.run-is", run=run)
+            want(f"--run {scene.run}" in told and f"forget {old}" not in told, told)
+    os.unlink(old)
     with open(scene.jobs) as file:
         text = file.read()
     with open(scene.jobs, "w") as file:
