@@ -139,7 +139,7 @@ class Page(Room):
 
     def test_the_steps_for_a_unit_are_tried_in_a_root(self):
         steps = "".join(self.blocks("A unit of systemd")).splitlines()
-        self.assertEqual(len(steps), 4)  # a user, two folders, an owner, and another command
+        self.assertEqual(len(steps), 5)  # a user, two folders, an owner, a mode, another command
         with open(f"{package.ROOT}/tools/releases/in_root", encoding="utf-8") as file:
             tried = file.read()
         for step in steps:
