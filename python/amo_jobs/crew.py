@@ -8,8 +8,9 @@ from __future__ import annotations
 
 import os
 import sys
+from contextlib import suppress
 from time import monotonic, sleep
-from typing import AbstractSet, Dict, List, Optional
+from typing import AbstractSet, Collection, Dict, List, Optional
 
 from amo_jobs import calls, crew_rules, reports
 from amo_jobs.crew_rules import (
@@ -105,7 +106,9 @@ class Crew:
         self.lock = self.take_crew()
         note_command(settings, version)
         self.family, self.signals = Family(settings.may_leave), Signals(Screen.tell)
-        self.before = self.family.snapshot(())  # children of whoever became this process
+        self.before: Collection[calls.Process] = ()  # children of whoever became this process
+        with suppress(OSError):  # else they count as left behind, and are waited for
+            self.before = self.family.snapshot(())
         self.bell = calls.Bell()
         self.progress = Progress(settings, program, self.state)
         self.locks: Dict[int, int] = {}
