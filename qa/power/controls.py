@@ -19,8 +19,7 @@ class Control(NamedTuple):
 
 
 CONTROLS: Dict[str, Control] = {
-    "no-syncs": Control("amo_worker, whose syncs do nothing",
-                        MISTAKEN._replace(syncs="none"), TWICE),
+    "no-syncs": Control("amo_worker without its syncs", MISTAKEN._replace(syncs="none"), TWICE),
     "unacknowledged": Control("amo_worker acknowledges an append after its write alone",
                               MISTAKEN._replace(syncs="unacknowledged"), TWICE),
     "joined": Control("the tests' own worker: it goes on with registers of an earlier boot, without"
