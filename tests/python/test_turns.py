@@ -65,11 +65,29 @@ class Digests(unittest.TestCase):
         root = f"{self.crate.folder}/repository"
         os.makedirs(f"{root}/tests")
         other = SimpleNamespace(folder=self.crate.folder, name="amo_one", kit=self.crate.kit)
-        self.assertEqual(turns.tried(root), {})
+        self.assertEqual(turns.tried(root), set())
         turns.write(root, [other])
         turns.write(root, [self.crate])
         now = turns.digest(self.crate)
-        self.assertEqual(turns.tried(root), {"amo_one": now, "amo_two": now})
+        self.assertEqual(turns.tried(root), {("amo_one", now), ("amo_two", now)})
+
+    def test_a_crate_is_recorded_for_each_toolchain(self) -> None:
+        root = f"{self.crate.folder}/repository"
+        os.makedirs(f"{root}/tests")
+        with_first = turns.digest(self.crate)
+        turns.write(root, [self.crate])
+        self.put("KIT-ID", "kit-2 logic 3\n")
+        with_second = turns.digest(self.crate)
+        turns.write(root, [self.crate])
+        self.assertEqual(turns.tried(root), {("amo_two", with_first), ("amo_two", with_second)})
+
+    def test_a_later_record_replaces_that_of_its_toolchain(self) -> None:
+        root = f"{self.crate.folder}/repository"
+        os.makedirs(f"{root}/tests")
+        turns.write(root, [self.crate])
+        self.put("src/lib.rt", CODE.replace("2\n}", "3\n}"))
+        turns.write(root, [self.crate])
+        self.assertEqual(turns.tried(root), {("amo_two", turns.digest(self.crate))})
 
 
 class Turns(unittest.TestCase):

@@ -1,10 +1,11 @@
 """Which mutants a run of `./test` tries.
 
-All mutants of a crate were tried when its line was written to tests/mutants_tried.txt. The line has
-a digest of the toolchain's version and of the crate's code, definitions, proofs and mutants, without
-comments. If the digest doesn't fit, a run tries all of them. Else the crate has its turn in every
-third run, and then a run tries the mutants of a quarter of its functions: to begin with a crate
-costs as much as many mutants. The number of commits decides which crates and functions.
+All mutants of a crate were tried when its line was written to tests/mutants_tried.txt. A crate has a
+line for each version of the toolchain with which they were tried. The line has that version, and a
+digest of the version and of the crate's code, definitions, proofs and mutants, without comments. If
+no line of the crate fits, a run tries all of them. Else the crate has its turn in every third run, and
+then a run tries the mutants of a quarter of its functions: to begin with a crate costs as much as many
+mutants. The number of commits decides which crates and functions.
 """
 
 from __future__ import annotations
@@ -53,22 +54,36 @@ def digest(crate) -> str:
     return total.hexdigest()[:32]
 
 
-def tried(root: str) -> dict[str, str]:
-    """Returns the digest at which all mutants of each crate were tried, by the crate's name."""
+def version_of(kit: str) -> str:
+    """Returns the version of the toolchain in this folder, which is one word."""
+    with open(f"{kit}/KIT-ID", encoding="utf-8") as held:
+        return held.read().split()[0]
+
+
+def lines_of(root: str) -> dict[tuple[str, str], str]:
+    """Returns the digest at which all mutants of each crate were tried, by the crate's name and the
+    toolchain's version."""
     try:
         with open(f"{root}/{TRIED}", encoding="utf-8") as held:
             lines = [it.split() for it in held if it.strip() and not it.startswith("#")]
     except FileNotFoundError:
         return {}
-    return {name: fits for name, fits in lines}
+    return {(name, version): fits for name, version, fits in lines}
+
+
+def tried(root: str) -> set[tuple[str, str]]:
+    """Returns each crate's name with each digest at which all its mutants were tried."""
+    return {(name, fits) for (name, _), fits in lines_of(root).items()}
 
 
 def write(root: str, crates: list) -> None:
-    """Records that all mutants of these crates were tried as they are now."""
-    lines = tried(root) | {it.name: digest(it) for it in crates}
-    head = "# Each crate, and a digest of it when all its mutants were tried (tools/wrong_bodies --write)."
+    """Records that all mutants of these crates were tried as they are now, with their toolchain."""
+    lines = lines_of(root) | {(it.name, version_of(it.kit)): digest(it) for it in crates}
+    rows = [f"{name} {version} {lines[name, version]}" for name, version in sorted(lines)]
+    head = ("# Each crate, the version of a toolchain, and a digest of both when all mutants of the crate\n"
+            "# were tried with that toolchain (tools/wrong_bodies --write).")
     with open(f"{root}/{TRIED}", "w", encoding="utf-8") as held:
-        held.write("\n".join([head, *(f"{name} {lines[name]}" for name in sorted(lines))]) + "\n")
+        held.write("\n".join([head, *rows]) + "\n")
 
 
 def turn(root: str) -> int:
