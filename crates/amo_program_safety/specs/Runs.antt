@@ -87,8 +87,8 @@ abbrev pub RunnerGives : World → (worker : ℕ) → Call → Type 0
 RunnerGives w worker (Heard line reply) = RunnerMayReply w worker reply
 RunnerGives w worker c = ⊤
 
--- No attempt of this worker and this serial number was handed over before. We assume that the
--- runner receives each request to perform only once.
+-- No attempt of this worker and this serial number was handed over before, by any process. We
+-- assume that the runner receives a request to perform each attempt at most once.
 abbrev pub IsFirst : World → (worker serial : ℕ) → Type 0
 IsFirst w worker serial = (h : Handing) → IsOneOf w.handed h → IsNamed worker serial h → ⊥
 
