@@ -1,7 +1,7 @@
-//! Checks of a run's folder, before anything is made or written there: the code of `amo_door`, over
-//! the files of the folder.
+//! Checks of a run's folder, before anything is made or written there: the code of
+//! `amo_admission_rules`, over the files of the folder.
 use crate::door_files::DoorFiles;
-use amo_door::Asked;
+use amo_admission_rules::Asked;
 use amo_run_dir::Age;
 use amo_run_faults::{Fault, ListSettings, Setting};
 use std::rt::HostRuntime;
@@ -25,7 +25,7 @@ pub fn open(
         into,
         is_named: setting.id.is_some(),
     };
-    let opened = amo_door::open(&mut files, asked);
+    let opened = amo_admission_rules::open(&mut files, asked);
     files.ended(opened)
 }
 
@@ -36,7 +36,7 @@ pub fn open(
 /// The faults of a refused folder.
 pub fn enter(rt: HostRuntime, setting: &Setting<'_>) -> Result<(), Fault> {
     let mut files = DoorFiles::new(rt, setting, None);
-    let entered = amo_door::enter(&mut files);
+    let entered = amo_admission_rules::enter(&mut files);
     files.ended(entered)
 }
 
@@ -47,7 +47,7 @@ pub fn enter(rt: HostRuntime, setting: &Setting<'_>) -> Result<(), Fault> {
 /// The faults of a refused folder.
 pub fn look_to_write(rt: HostRuntime, setting: &Setting<'_>) -> Result<(), Fault> {
     let mut files = DoorFiles::new(rt, setting, None);
-    let looked = amo_door::look_to_write(&mut files);
+    let looked = amo_admission_rules::look_to_write(&mut files);
     files.ended(looked)
 }
 
@@ -58,7 +58,7 @@ pub fn look_to_write(rt: HostRuntime, setting: &Setting<'_>) -> Result<(), Fault
 /// The faults of a refused folder.
 pub fn look_to_read(rt: HostRuntime, setting: &Setting<'_>) -> Result<Age, Fault> {
     let mut files = DoorFiles::new(rt, setting, None);
-    let has_id = amo_door::look_to_read(&mut files, setting.id.is_some());
+    let has_id = amo_admission_rules::look_to_read(&mut files, setting.id.is_some());
     if files.ended(has_id)? {
         Ok(Age::Now)
     } else {
@@ -72,6 +72,6 @@ pub fn look_to_read(rt: HostRuntime, setting: &Setting<'_>) -> Result<Age, Fault
 /// The faults by which a folder is refused, and `OtherId`.
 pub fn look_at_folder(rt: HostRuntime, setting: &Setting<'_>) -> Result<(), Fault> {
     let mut files = DoorFiles::new(rt, setting, None);
-    let looked = amo_door::look_at_folder(&mut files);
+    let looked = amo_admission_rules::look_at_folder(&mut files);
     files.ended(looked)
 }

@@ -3,7 +3,7 @@ ghost use Rattle.std.specs.Prelude.{◌≡◌};
 
 use crate::disk::check_file_system;
 use crate::list::check_jobs;
-use amo_door::{DoorHost, Failed, FolderFile, Halt, Place, Refusal, RunFile, is_first};
+use amo_admission_rules::{DoorHost, Failed, FolderFile, Halt, Place, Refusal, RunFile, is_first};
 use amo_fs::{is_mine, make_file, make_folder, make_if_missing, names_in, sync_folder};
 use amo_run_dir::{bytes_of, has_id, len_of, lock_of, path_of, sync};
 use amo_run_faults::{Door, Fault, Item, Later, Setting, had, is_id, written};

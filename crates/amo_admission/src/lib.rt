@@ -1,5 +1,6 @@
 //! The admission check of a run's folder, before a worker begins there or a command reads it, over
-//! the files of the folder. `amo_door` decides; here a call is one call on a file or a few.
+//! the files of the folder. `amo_admission_rules` decides; here a call is one call on a file or a
+//! few.
 //!
 //! Start at [`open`], which makes a folder that is missing, and at [`enter`], which makes nothing.
 //! The glossary's admission check is also called the door.
