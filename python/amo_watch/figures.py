@@ -22,7 +22,7 @@ class Figures(NamedTuple):
     begun: Optional[int]  # when the first attempt was begun
     ends: Counter[int]  # how many attempts have ended in each second of the last minute
     pending: Optional[int]  # when the oldest attempt without an end was begun
-    doubt: Optional[int]  # when the oldest doubt ended
+    doubt: Optional[int]  # when the oldest doubt was recorded
 
     def rate(self) -> float:
         """Returns how many attempts ended in a second of the last minute."""
@@ -57,24 +57,25 @@ def first(times: List[Optional[int]]) -> Optional[int]:
 
 
 def rates_of(found: Snapshot) -> Dict[str, Any]:
-    """Returns when the run began, when an attempt ended last, how many ended in a second, over all
-    and in the last minute, and when all lines will be closed. That time is None if no attempt
-    ended in the last minute: then nobody may be at work."""
-    begun, ended, count = found.begun, found.ended, found.count
-    span = max(ended - begun, 1) if begun is not None and ended is not None else 0
-    minute = minute_of(found.ends, begun, found.time)
+    """Returns when the run began, when the last end was recorded, how many attempts ended in a
+    second, over all and in the last minute, and when all lines will be closed. Over all, neither
+    doubts nor pauses count. The last time is None if no attempt ended in the last minute: then
+    nobody may be at work."""
+    span = sum(max(stop - begin, 1) for begin, stop in zip(found.begins, found.stops))
+    minute = minute_of(found.ends, found.begun, found.time, found.since)
     left = found.counts["open"] + found.counts["pending"]
-    return {"begun": begun, "ended": ended, "ends": count,
-            "a_second": round(count / span, 3) if span else 0.0,
+    return {"begun": found.begun, "ended": found.ended, "ends": sum(found.ends.values()),
+            "a_second": round(found.timed / max(span, 1), 3),
             "last_minute": round(minute, 3), "over_at": over_at(found.time, left, minute)}
 
 
-def minute_of(ends: Counter[int], begun: Optional[int], now: int) -> float:
+def minute_of(ends: Counter[int], begun: Optional[int], now: int, since: float = 0) -> float:
     """Returns how many attempts ended in a second of the last minute, or of the time since the run
-    began."""
+    began, or since this time."""
     if begun is None:
         return 0.0
-    return sum(ends[now - it] for it in range(MINUTE)) / max(min(MINUTE, now - begun), 1)
+    seconds = max(min(MINUTE, now - max(begun, int(since))), 1)
+    return sum(ends[now - it] for it in range(seconds)) / seconds
 
 
 def over_at(now: int, left: int, a_second: float) -> Optional[int]:

@@ -23,7 +23,7 @@ from amo_jobs.run_folder import name_run
 from amo_jobs.settings import Settings
 from amo_jobs.statuses import Status
 from amo_jobs.worker import Program
-from amo_watch.snapshot import alive, Follower, Snapshot
+from amo_watch.snapshot import alive, began, Follower, Snapshot
 from amo_watch.texts import Lines, output_of
 from amo_watch.view import Answer, Facts, picture, summary, View
 
@@ -38,7 +38,7 @@ class Live:
         """Begins to follow the run. Raises OSError."""
         self.settings, self.program = settings, program
         self.found, self.texts = Snapshot(), {}  # type: Snapshot, Dict[int, str]
-        self.lines = Lines(settings.run)
+        self.lines, self.alive = Lines(settings.run), []  # type: Lines, List[int]
         self.follower = Follower(program, settings.run)
         used = content(f"{settings.run}/command", True) or {}
         self.view, self.results = View(), used.get("results", settings.run)
@@ -54,6 +54,8 @@ class Live:
             self.begin_again()
         for it in said or ():
             self.found.take(it)
+        self.alive = alive(self.settings.run, self.found.workers or 0)
+        self.found.since = began(self.settings.run, self.alive)
         self.read_texts()
         return bool(said)
 
@@ -79,8 +81,7 @@ class Live:
         for it in self.found.of("pending")[:MOST_OUTPUTS]:
             ends = [output_of(f"{self.results}/{kind}.{it.name}").end for kind in ("out", "err")]
             outputs[it.name] = next((end[-1] for end in reversed(ends) if end), "")
-        return Facts(self.found, self.texts, outputs,
-                     alive(self.settings.run, self.found.workers or 0))
+        return Facts(self.found, self.texts, outputs, self.alive)
 
     def crew(self) -> int:
         """Returns the process of the crew's supervisor; 0 if none is at work. It has signed the

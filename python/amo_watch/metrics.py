@@ -16,7 +16,7 @@ HEADS = [("amo_lines", "gauge", "Lines of the list by state; pending is running 
          ("amo_attempts", "gauge", "Attempts by what is recorded of their end."),
          ("amo_ends_per_second", "gauge", "Ends of attempts per second, in the last minute."),
          ("amo_oldest_pending_seconds", "gauge", "Age of the oldest attempt without an end."),
-         ("amo_oldest_doubt_seconds", "gauge", "Time since the oldest doubt ended."),
+         ("amo_oldest_doubt_seconds", "gauge", "Time since the oldest doubt was recorded."),
          ("amo_runners_alive", "gauge", "Runners of the crew that are alive."),
          ("amo_crew_running", "gauge", "1 while the crew works, 0 once it has ended."),
          ("amo_last_error_timestamp_seconds", "gauge", "When the crew last reported an error."),

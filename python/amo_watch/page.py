@@ -89,9 +89,9 @@ def pace_text(facts: Dict[str, Any]) -> str:
     text = f"The first line was begun {dated(rates['begun'])}"
     if rates["ended"] is not None:
         span = lasting(rates["ended"] - rates["begun"])
-        text += f", the last one ended {dated(rates['ended'])}, {span} later"
-    text += f". {rates['ends']} attempts have ended: {rates['a_second']:g} a second"
-    text += f", and {rates['last_minute']:g} a second in the last minute."
+        text += f", the last end was recorded {dated(rates['ended'])}, {span} later"
+    text += (f". {rates['ends']} attempts have ended: {rates['a_second']:g} a second without doubts"
+             f" and pauses, and {rates['last_minute']:g} a second in the last minute.")
     if rates["over_at"] is not None:
         return f"{text} At that pace all lines are closed at {dated(rates['over_at'])}."
     if counts["open"] or counts["pending"]:
@@ -137,13 +137,12 @@ def article(row: Dict[str, Any]) -> str:
 
 
 def end_of(row: Dict[str, Any]) -> str:
-    """Returns how an attempt ended, and how long ago."""
-    code = f" with status {row['code']}" if row["code"] is not None else ""
+    """Returns how an attempt ended, and how long ago. Nobody may have seen the end of a doubt."""
+    how = "ended" if row["code"] is None else f"ended with status {row['code']}"
+    if row["ended"] is None:
+        return "no end is recorded" if row["state"] == "pending" else f"{how} {dated(None)}"
     age = f", {lasting(row['age'])} ago" if row["age"] is not None else ""
-    if row["ended"] is not None:
-        return f"ended{code} {dated(row['ended'])}{age}"
-    pending = row["state"] == "pending"
-    return "no end is recorded" if pending else f"ended{code} {dated(None)}"
+    return f"{'recorded as over' if row['code'] is None else how} {dated(row['ended'])}{age}"
 
 
 def answers(row: Dict[str, Any]) -> str:

@@ -9,6 +9,7 @@ from __future__ import annotations
 import json
 import os
 import subprocess
+from bisect import bisect_left, bisect_right
 from typing import Any, Counter, Dict, List, NamedTuple, Optional, Set, Tuple
 
 from amo_jobs.messages import End, visible
@@ -57,8 +58,8 @@ class Attempt(NamedTuple):
 
     @property
     def seconds(self) -> Optional[int]:
-        """How long it took; None if that isn't known."""
-        if self.begun is None or self.ended is None:
+        """How long it took; None if that isn't known. Nobody may have seen the end of a doubt."""
+        if self.begun is None or self.ended is None or self.outcome == "doubt":
             return None
         return self.ended - self.begun if self.ended > self.begun else 0
 
@@ -77,9 +78,12 @@ class Snapshot:
         self.states: Dict[str, Set[Tuple[int, int]]] = {it: set() for it in COUNTS}
         self.outcomes: Counter[str] = Counter()  # how many attempts have which outcome
         self.ends: Counter[int] = Counter()  # how many attempts have ended in each second
-        self.ended: Optional[int] = None  # when the last one has ended, and how many have
-        self.count = 0
+        self.ended: Optional[int] = None  # when the last one has ended
+        self.timed = 0  # of how many it is known how long they took
         self.begun: Optional[int] = None  # when the first one was begun
+        self.begins: List[int] = []  # when attempts were under way: begins, and the ends of these
+        self.stops: List[int] = []  # times, which are apart from each other
+        self.since = 0.0  # when the first runner that is alive began
 
     def take(self, said: Dict[str, Any]) -> List[Attempt]:
         """Takes a line; returns the attempts that are new or have changed."""
@@ -102,17 +106,27 @@ class Snapshot:
         begun = [it.begun for it in fresh.values() if it.begun is not None]
         self.outcomes.update(it.outcome for it in fresh.values())
         self.ends.update(ended)
-        self.count += len(ended)
         self.ended = max([*ended, *filter(None, [self.ended])], default=None)
         self.begun = min([*begun, *filter(None, [self.begun])], default=None)
+        times = [(it.begun or 0, it.seconds) for it in fresh.values() if it.seconds is not None]
+        self.timed += len(times)
+        for begin, seconds in {*times}:
+            self.note_time(begin, seconds)
+
+    def note_time(self, begin: int, seconds: int) -> None:
+        """Notes when an attempt was under way. Times that meet become one."""
+        stop = begin + seconds
+        part = slice(bisect_left(self.stops, begin - 1), bisect_right(self.begins, stop + 1))
+        self.begins[part] = [min([begin, *self.begins[part]])]
+        self.stops[part] = [max([stop, *self.stops[part]])]
 
     def forget(self, key: Tuple[int, int], it: Attempt) -> None:
         """Doesn't count an attempt any more that has changed."""
         self.states[it.state].discard(key)
         self.outcomes[it.outcome] -= 1
+        self.timed -= it.seconds is not None
         if it.ended is not None:
             self.ends[it.ended] -= 1
-            self.count -= 1
 
     def of(self, state: str) -> List[Attempt]:
         """Returns the attempts that stand so, by line."""
@@ -138,6 +152,11 @@ def alive(run: str, workers: int) -> List[int]:
     return [it for it in range(1, workers + 1) if signer(f"{path}{it}")]
 
 
+def began(run: str, workers: List[int]) -> float:
+    """Returns when the first of these runners began, which then wrote its file; 0 if none did."""
+    return min((os.path.getmtime(f"{run}/runner.{it}") for it in workers), default=0.0)
+
+
 def words_of(program: Program, run: str, *more: str) -> List[str]:
     """Returns the command that follows a run."""
     return [program.path, "status", run, "--follow", *more, *program.more]
@@ -152,6 +171,7 @@ def snapshot_of(program: Program, run: str) -> Snapshot:
     """Returns how a run stands now."""
     found = Snapshot()
     found.take(said_now(program, run))
+    found.since = began(run, alive(run, found.workers or 0))
     return found
 
 

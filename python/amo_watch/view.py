@@ -158,7 +158,7 @@ def doubts(facts: Facts) -> Iterator[str]:
     if not rows:
         yield "no line is recorded as in doubt"
     for it in rows:
-        age = f"ended {lasting(max(found.time - it.ended, 0))} ago" if it.ended else "no end known"
+        age = f"recorded {lasting(max(found.time - it.ended, 0))} ago" if it.ended else "undated"
         yield f"{it.name}, line {it.line}, {age}: {text_of(facts, it)}"
 
 

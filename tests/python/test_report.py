@@ -141,8 +141,9 @@ class Reports(unittest.TestCase):
         found, text, seen = self.page(rows, list("abcdefg"))
         self.assertEqual(found["counts"], {"done": 1, "failed": 1, "doubt": 1, "pending": 1,
                                            "untouched": 1, "open": 2})
+        # No attempt whose end was seen was under way from 30 to 5 seconds ago: 80 seconds count.
         self.assertEqual(found["rates"], {
-            "begun": NOW - 100, "ended": NOW + 5, "ends": 3, "a_second": round(3 / 105, 3),
+            "begun": NOW - 100, "ended": NOW + 5, "ends": 3, "a_second": round(3 / 80, 3),
             "last_minute": round(1 / 60, 3), "over_at": NOW + 3 * 60})
         self.assertEqual([it["age"] for it in found["failures"]], [30])
         self.assertEqual([it["age"] for it in found["doubts"] + found["untouched"]], [None, None])
@@ -151,7 +152,33 @@ class Reports(unittest.TestCase):
                          [(8, 2), (32, 1)])
         self.assertIn("ended at a time that is not known", text)
         self.assertIn("no end is recorded", text)
+        self.assertRegex(text, r"ended with status 3 [-0-9]{10} [:0-9]{8} [-+0-9]{5}, 30 s ago")
         self.assertEqual(len(seen.commands), 2 + 1 + 2 + 2 + 1)
+
+    def test_the_last_minute_begins_with_the_runners(self):
+        rows = [[1, 1, 1, NOW - 4000, "done", 0, NOW - 3900, "done"],
+                *([1, k, k, NOW - 10, "done", 0, NOW - 7 + k, "done"] for k in range(2, 7))]
+        with open(f"{self.run}/runner.1", "w", encoding="ascii") as file:  # a runner that is alive
+            file.write(f"{os.getpid()}\n")
+            file.flush()
+            os.utime(f"{self.run}/runner.1", (NOW - 10, NOW - 10))
+            found, text, _ = self.page(rows, list("abcdefghij"))
+        # Over all 100 seconds count, and 9 of the last ones: five lines ended then.
+        self.assertEqual((found["rates"]["a_second"], found["rates"]["last_minute"]),
+                         (round(6 / 109, 3), 5 / 10))
+        self.assertEqual(found["rates"]["over_at"], NOW + 8)
+        self.assertIn("6 attempts have ended: 0.055 a second without doubts and pauses, and"
+                      " 0.5 a second in the last minute.", text)
+
+    def test_the_record_of_a_doubt_is_not_taken_for_the_end_of_its_command(self):
+        rows = [[1, 1, 1, NOW - 9000, "doubt", None, NOW - 60, "doubt"],
+                [1, 2, 2, NOW - 50, "done", 0, NOW - 40, "done"]]
+        found, text, _ = self.page(rows, list("ab"))
+        self.assertRegex(text, r"recorded as over [-0-9]{10} [:0-9]{8} [-+0-9]{5}, 1 min ago")
+        self.assertEqual([it["seconds"] for it in found["doubts"]], [None])
+        self.assertEqual([it["line"] for it in found["slowest"]], [2])
+        self.assertEqual([(it["from"], it["count"]) for it in found["histogram"] if it["count"]],
+                         [(8, 1)])
 
     def test_what_a_person_answered_is_listed(self):
         rows = [[1, 1, 1, NOW - 90, "done", 0, NOW - 80, "done"],
@@ -252,9 +279,12 @@ class Snapshots(unittest.TestCase):
         self.assertEqual([it.state for it in found.attempts.values()], ["done", "pending"])
         self.assertEqual([it.seconds for it in found.attempts.values()], [4, None])
         self.assertEqual([it.line for it in found.of("pending")], [1])
-        self.assertEqual((found.begun, found.ended, found.count), (5, 9, 1))
+        self.assertEqual((found.begun, found.ended, found.timed, sum(found.ends.values())),
+                         (5, 9, 1, 1))
         self.assertEqual({**found.outcomes}, {"pending": 1, "done": 1})
         self.assertEqual([it.line for it in found.of("done")], [2])
+        found.take(Program([[1, 1, 2, 5, "done", 0, 9, "open"]], 3).said)  # an operator's answer
+        self.assertEqual((found.timed, found.begins, found.stops), (1, [5], [9]))
 
     def test_a_line_of_another_version_is_refused(self):
         for line in (b"", b"{}", b"[]", b"lines 3 done 0", b'{"format": 2}'):

@@ -2,12 +2,14 @@
 
 import json
 import os
+import random
 import re
 import shutil
 import signal
 import subprocess
 import sys
 import tempfile
+import types
 import unittest
 from unittest import mock
 
@@ -68,11 +70,11 @@ class Views(unittest.TestCase):
 
     def test_each_size_has_both_paces_and_the_end(self):
         more = [[3, k, 9 + k, NOW - 9, "done", 0, NOW - 3, "done"] for k in range(1, 13)]
-        found = found_of(ROWS + more, 21)  # 15 ends in the last minute, and in 87 s over all
+        found = found_of(ROWS + more, 21)  # 15 ends in the last minute, and 14 seen in 87 s
         texts = {size: [it for it, _ in view.picture(view.Facts(found, {}, {}, []), view.View(),
                                                      *size)] for size in ((39, 10), (79, 24))}
-        self.assertRegex(texts[39, 10][3], r"^0\.25/s, all 0\.172/s, over \d\d:\d\d:\d\d$")
-        self.assertRegex(texts[79, 24][2], r"^0\.25 a second in the last minute, 0\.172 over all;"
+        self.assertRegex(texts[39, 10][3], r"^0\.25/s, all 0\.161/s, over \d\d:\d\d:\d\d$")
+        self.assertRegex(texts[79, 24][2], r"^0\.25 a second in the last minute, 0\.161 over all;"
                                            r" over at \d\d:\d\d:\d\d, in 24 s$")
         self.assertLess(max(map(len, texts[39, 10])), 40)
         self.assertTrue(max(map(len, (view.ASKED, view.KEYS))) < 40)
@@ -87,7 +89,7 @@ class Views(unittest.TestCase):
         shown.take("d")
         self.assertTrue(shown.has_doubts)
         texts = [it for it, _ in self.rows(80, 24, shown)]
-        self.assertIn("1.2, line 2, ended 20 s ago: rent", texts)
+        self.assertIn("1.2, line 2, recorded 20 s ago: rent", texts)
         shown.take("s")
         self.assertEqual(self.rows(80, 24, shown)[-1], (view.ASKED, True))
         shown.take("q")  # any key but y
@@ -118,6 +120,94 @@ class Views(unittest.TestCase):
                 watched.settings = Settings(run=run)
                 self.assertEqual(watched.stop(), f"sent TERM to {child.pid}; commands go on")
                 self.assertEqual(child.wait(60), -signal.SIGTERM)
+
+
+class Paces(unittest.TestCase):
+    """The pace of a run whose lines take a second each. It is worked out by hand."""
+
+    def rates(self, rows, since=0.0):
+        """Returns the rates of a run of 1,000 lines, whose runners began at this time."""
+        found = found_of(rows, 1000)
+        found.since = since
+        return figures.rates_of(found)
+
+    def crew(self, first, count, begun, code=0):
+        """Returns attempts from this one on, begun from this time on, one after the other."""
+        return [[1, first + k, first + k, begun + k, "done", code, begun + k + 1, "done"]
+                for k in range(count)]
+
+    def test_a_pause_lowers_no_pace_and_makes_no_end_later(self):
+        for seconds in (5, 30, 300):
+            rows = self.crew(1, 100, NOW - seconds - 3700)
+            rows += self.crew(101, seconds, NOW - seconds)
+            rows += [[1, 101 + seconds, 101 + seconds, NOW, "pending", None, None, "pending"]]
+            found = self.rates(rows, NOW - seconds + 0.5)
+            self.assertEqual((found["a_second"], found["last_minute"]), (1, 1), seconds)
+            self.assertEqual(found["over_at"], NOW + 900 - seconds, seconds)
+
+    def test_a_crew_that_was_killed_makes_no_pace_lower(self):
+        # The next crew found the doubt an hour later, 10 seconds ago. Its first line took a second.
+        rows = [*self.crew(1, 100, NOW - 3710),
+                [1, 101, 101, NOW - 3610, "doubt", None, NOW - 10, "doubt"],
+                *self.crew(102, 10, NOW - 10)]
+        found = self.rates(rows, NOW - 10.0)
+        self.assertEqual((found["a_second"], found["last_minute"]), (1, 1))
+        without = self.rates(rows)  # as if nobody knew when the runners began
+        self.assertEqual(without["last_minute"], round(11 / 60, 3))
+
+    def test_the_minute_of_old_runners_is_a_minute(self):
+        rows = self.crew(1, 300, NOW - 300)
+        self.assertEqual(self.rates(rows, NOW - 300.0)["last_minute"], 1)
+        self.assertEqual(self.rates(rows[:270], NOW - 300.0)["last_minute"], 0.5)
+
+    def test_a_clock_that_was_set_back_divides_by_no_zero(self):
+        self.assertEqual(self.rates(self.crew(1, 9, NOW - 8), NOW + 500.0)["last_minute"], 1)
+
+    def test_each_short_attempt_between_pauses_counts_as_a_second(self):
+        rows = [[1, k, k, NOW - 5 * k, "done", 0, NOW - 5 * k, "done"] for k in range(1, 11)]
+        self.assertEqual(self.rates(rows)["a_second"], 1)
+        self.assertEqual(self.rates([])["a_second"], 0)
+
+    def test_times_in_any_order_are_put_together(self):
+        draws = random.Random(7)
+        for _ in range(300):
+            found, seconds = snapshot.Snapshot(), set()
+            for _ in range(draws.randint(1, 9)):
+                begun, length = draws.randint(1, 40), draws.randint(0, 6)
+                found.note_time(begun, length)
+                seconds |= {*range(begun, begun + length + 1)}
+            begins = [it for it in sorted(seconds) if it - 1 not in seconds]
+            stops = [it for it in sorted(seconds) if it + 1 not in seconds]
+            self.assertEqual((found.begins, found.stops), (begins, stops))
+
+    def test_the_first_runner_that_is_alive_counts(self):
+        with tempfile.TemporaryDirectory() as run:
+            self.assertEqual(snapshot.began(run, []), 0)
+            for worker, time in ((1, 900.0), (3, 1000.5), (4, 2000.0)):
+                with open(f"{run}/runner.{worker}", "w", encoding="ascii"):
+                    os.utime(f"{run}/runner.{worker}", (time, time))
+            self.assertEqual(snapshot.began(run, [4, 3]), 1000.5)
+
+    def test_a_live_view_looks_when_its_runners_began(self):
+        reads, writes = os.pipe()
+        with tempfile.TemporaryDirectory() as run, open(reads), open(writes, "w") as lines:
+            with open(f"{run}/jobs", "w", encoding="ascii") as file:
+                file.write("a\n" * 9)
+            for worker, process, seconds in ((1, 0, 3000), (2, os.getpid(), 20)):
+                with open(f"{run}/runner.{worker}", "w", encoding="ascii") as file:
+                    file.write(f"{process}\n")
+                os.utime(f"{run}/runner.{worker}", (NOW - seconds, NOW - seconds))
+            watched = live.Live.__new__(live.Live)
+            watched.settings, watched.found = Settings(run=run), snapshot.Snapshot()
+            watched.texts, watched.lines = {}, live.Lines(run)
+            watched.follower = types.SimpleNamespace(file=reads,
+                                                     said=lambda: [Program(ROWS, 9).said])
+            print("a line", file=lines, flush=True)
+            with open(f"{run}/runner.1"), open(f"{run}/runner.2"):  # both are open, one is signed
+                self.assertTrue(watched.read(60))
+            self.assertEqual((watched.alive, watched.found.since), ([2], NOW - 20))
+            # One attempt ended 10 seconds ago, and two ended before the runner began.
+            self.assertEqual(figures.rates_of(watched.found)["last_minute"], round(1 / 20, 3))
 
 
 class Numbers(unittest.TestCase):
