@@ -283,8 +283,8 @@ def refuse_answer(words: List[str]) -> None:
                                 " not-done, or --from FILE")
     from amo_jobs.status import ANSWERS
     if words[3] not in ANSWERS:
-        raise End(Status.WORDS, f"answer `{visible(words[3])}`: it isn't done or not-done; give one"
-                                " of these last, and options before --")
+        raise End(Status.WORDS, f"answer `{visible(words[3])}`: it isn't valid; write done if it"
+                                " happened, not-done if it surely did not, and options before --")
     if "\n" in words[2]:
         raise End(Status.WORDS, f"text `{visible(words[2])}`: no line holds a line feed; give the"
                                 " text of one line, as `amo_jobs doubts` prints it")

@@ -1,5 +1,4 @@
-"""How the lines of a run stand, and what an operator answers: the commands status, doubts, answer
-and again.
+"""The commands status, doubts, answer and again: how lines stand, and what an operator answers.
 
 Begin with `status`.
 """
@@ -11,7 +10,7 @@ import os
 import sys
 import time
 from contextlib import suppress
-from typing import Any, Collection, Dict, Iterator, List, Optional
+from typing import Any, Collection, Dict, Iterator, List
 
 from amo_jobs.files import content
 from amo_jobs.mark import id_of
@@ -23,12 +22,14 @@ from amo_jobs.statuses import KINDS, Status
 from amo_jobs.worker import Program
 from amo_watch.texts import dated, lasting, Output, outputs_of
 
-# Each answer that the operator may give, with the text above its command.
+# Each answer that the operator may give, with the text above its command in a report.
 ANSWERS = {"done": "If it happened:", "not-done": "If it surely did not happen:"}
+BLANK = "ANSWER"  # in a printed command, in place of an answer; it is refused as it stands
 # Printed below all doubts, with the run's id: no lock shows these processes.
-LOOK = ("If a runner was killed, list the processes that its commands left, before an answer:\n"
-        "  grep -lszx AMO_RUN_ID={} /proc/[0-9]*/environ | cut -d/ -f3"
-        " | xargs -rn1 ps -o pid=,args= -p")
+NOTES = (f"Put done in place of {BLANK} if it happened, or not-done if it surely did not happen.\n"
+         "If a runner was killed, list the processes that its commands left, before an answer:\n"
+         "  grep -lszx AMO_RUN_ID={} /proc/[0-9]*/environ | cut -d/ -f3"
+         " | xargs -rn1 ps -o pid=,args= -p")
 NO_PROCESS = "its worker is alive, or a process of another user"
 
 
@@ -64,16 +65,14 @@ def doubts(settings: Settings, program: Program) -> int:
         print(json.dumps(found))
         return Status.DONE
     for it in found:
-        name = it["intent"]
-        print(f"{name}, line {it['line']}: {visible(it['text'])}")
+        name, line, text = it["intent"], str(it["line"]), it["text"]
+        print(f"{name}, line {line}: {visible(text)}")
         print(f"  started {dated(it['time'])} by worker {name.split('.')[0]}, {how_old(it)}")
         print("".join(map(shown, outputs_of(folders, name))), end="")
-        words = ["answer", "--", name, str(it["line"]), it["text"]]
-        for verdict, label in ANSWERS.items():
-            print(f"  {label}\n    {next_command(settings, *words, verdict)}")
-    print(f"{LOOK.format(id_of(settings.run))}\n" if found else "", end="")
-    running = 0 if found else program.status(settings.run)["running"]
-    if running:
+        print(" ", next_command(settings, "answer", "--", name, line, text, BLANK))
+    if found:
+        print(NOTES.format(id_of(settings.run)))
+    elif running := program.status(settings.run)["running"]:
         Screen.tell(f"no line is in doubt, and {running} still run; ask again once they have ended")
     return Status.DONE
 
@@ -132,12 +131,13 @@ def outlook(pace: float, count: int) -> str:
 
 
 def pace_of(run: str, workers: List[int]) -> float:
-    """Returns how many commands end in a second, by the files `pace.P` of the runners."""
+    """Returns how many commands end in a second, by the files `pace.P` of the present runners."""
     pace = 0.0
     for number in workers:
         with suppress(OSError, ValueError), open(f"{run}/pace.{number}") as file:
             begun, ended = map(float, file.readline().split())
-            pace += ended / max(time.time() - begun, 1)
+            if begun >= int(os.stat(f"{run}/runner.{number}").st_mtime):  # else an earlier one's
+                pace += ended / max(time.time() - begun, 1)
     return pace
 
 
@@ -156,12 +156,11 @@ def listed(run: str, found: Dict[str, Any], states: Collection[str]) -> Iterator
 # ---- doubts
 
 def how_old(doubt: Dict[str, Any]) -> str:
-    """Returns when an attempt ended, and how long ago."""
+    """Returns when an attempt was recorded as over, and how long ago. It ended then or earlier."""
     if doubt["ended"] is None:
         return f"ended {dated(None)}"
-    if doubt["age"] is None:
-        return f"ended {dated(doubt['ended'])}, which is ahead of the clock"
-    return f"ended {dated(doubt['ended'])}, {lasting(doubt['age'])} ago"
+    since = f"{lasting(doubt['age'])} ago" if doubt["age"] is not None else "ahead of the clock"
+    return f"recorded as over {dated(doubt['ended'])}, {since}"
 
 
 def shown(output: Output) -> str:

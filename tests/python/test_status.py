@@ -1,16 +1,20 @@
-"""How lines are counted and listed, and how old a doubt is."""
+"""How lines are counted and listed, how old a doubt is, and what pasted commands record."""
 
+import contextlib
+import io
 import itertools
 import os
 import subprocess
 import tempfile
 import time
+import types
 import unittest
 from unittest import mock
 
-from package import until
+from package import ROOT, until
 
 from amo_jobs import calls, processes, status
+from amo_jobs.settings import Settings
 from amo_jobs.statuses import KINDS, Status
 from amo_watch import texts
 
@@ -59,8 +63,29 @@ class Counts(unittest.TestCase):
                                  (3, "damaged\n"), (5, f"{'':32}{starts}")):
                 with open(f"{run}/pace.{number}", "w", encoding="ascii") as file:
                     file.write(text)
+            for number in range(1, 6):
+                self.sign(run, number, 999.0)
             with mock.patch.object(status.time, "time", return_value=1100.0):
                 self.assertEqual(status.pace_of(run, [1, 2, 3, 4, 5]), 0.5 + 2)
+
+    def test_the_pace_of_an_earlier_runner_does_not_count(self):
+        # 50 commands have ended since 1000. The crew of that time has ended, and a runner of number
+        # 1 was started at 4690. It has no end yet. Then one ends.
+        with tempfile.TemporaryDirectory() as run, \
+                mock.patch.object(status.time, "time", return_value=4700.0):
+            with open(f"{run}/pace.1", "w", encoding="ascii") as file:
+                file.write("1000 50")
+            self.assertEqual(status.pace_of(run, [1]), 0)  # nobody has signed the file
+            self.sign(run, 1, 4690.0)
+            self.assertEqual(status.pace_of(run, [1]), 0)
+            with open(f"{run}/pace.1", "w", encoding="ascii") as file:
+                file.write("4690 1")
+            self.assertEqual(status.pace_of(run, [1]), 0.1)
+
+    def sign(self, run, number, time):
+        """Makes the file that a runner writes when it begins, as of this time."""
+        with open(f"{run}/runner.{number}", "w", encoding="ascii"):
+            os.utime(f"{run}/runner.{number}", (time, time))
 
 
 class Lists(unittest.TestCase):
@@ -141,9 +166,9 @@ class Ages(unittest.TestCase):
                          "ended at a time that is not known")
         with mock.patch.object(status, "dated", lambda it: f"DATE{it}"):
             self.assertEqual(status.how_old({"ended": 9, "age": None}),
-                             "ended DATE9, which is ahead of the clock")
+                             "recorded as over DATE9, ahead of the clock")
             self.assertEqual(status.how_old({"ended": 9, "age": 3725}),
-                             "ended DATE9, 1 h 2 min ago")
+                             "recorded as over DATE9, 1 h 2 min ago")
 
     def test_the_printed_command_finds_what_a_command_has_left(self):
         one, another = "1" * 32, "1" * 31 + "2"
@@ -151,7 +176,7 @@ class Ages(unittest.TestCase):
                 subprocess.Popen(["sleep", "60"], env={"AMO_RUN_ID": another}) as other:
             try:
                 until(lambda: calls.words_of(left.pid) and calls.words_of(other.pid))
-                script = status.LOOK.format(one).splitlines()[1]
+                script = status.NOTES.format(one).splitlines()[-1]
                 ran = subprocess.run(["bash", "-c", script], stdout=subprocess.PIPE, text=True)
                 found = [it.split() for it in ran.stdout.splitlines()]
                 self.assertIn([str(left.pid), "sleep", "60"], found)
@@ -173,6 +198,68 @@ class Ages(unittest.TestCase):
                     file.write(data)
                 found = map(status.shown, texts.outputs_of([room], "1.2"))
                 self.assertEqual("".join(found), wanted)
+
+
+class Pasted(unittest.TestCase):
+    """What `doubts` prints of three attempts, and a worker that keeps the answers that it gets."""
+
+    TEXTS = ["rent 700 to Ada", "pay -- to Ben ANSWER", "-rf"]
+    ATTEMPTS = [{"intent": f"1.{k}", "line": k, "text": text, "time": 1, "ended": 2, "age": 3}
+                for k, text in enumerate(TEXTS, 1)]
+
+    def setUp(self):
+        room = tempfile.TemporaryDirectory()
+        self.addCleanup(room.cleanup)
+        self.room, self.given = room.name, f"{room.name}/given"
+        with open(f"{self.room}/worker", "w", encoding="utf-8") as file:
+            file.write('#!/bin/sh\nwhile [ "$1" != --from ]; do shift; done\n'
+                       f'cat "$2" >> {self.given}\n')
+        os.chmod(f"{self.room}/worker", 0o755)
+
+    def printed(self):
+        """Returns what `doubts` prints, with the output of one command."""
+        os.mkdir(f"{self.room}/run")
+        with open(f"{self.room}/run/out.1.1", "w", encoding="ascii") as file:
+            file.write("sending rent 700 to Ada\n")
+        settings = Settings("doubts", run=f"{self.room}/run", names=[
+            "--worker-program", f"{self.room}/worker", "tonight.txt"])
+        program = types.SimpleNamespace(more=[], told=lambda *_: self.ATTEMPTS)
+        with mock.patch("sys.argv", [f"{ROOT}/amo_jobs"]), \
+                contextlib.redirect_stdout(io.StringIO()) as said:
+            self.assertEqual(status.doubts(settings, program), Status.DONE)
+        return said.getvalue()
+
+    def paste(self, text):
+        """Pastes a text into an interactive bash; returns its status and its messages."""
+        words = ["bash", "--norc", "--noprofile", "-i"]
+        more = {"HISTFILE": "/dev/null", "PS1": ""}
+        ran = subprocess.run(words, input=text, text=True, capture_output=True, cwd=self.room,
+                             env={**os.environ, **more})
+        return ran.returncode, ran.stderr
+
+    def test_the_text_as_it_stands_records_nothing(self):
+        text = self.printed()
+        _, said = self.paste(text)
+        self.assertEqual(said.count("answer `ANSWER`: it isn't valid; write done if it happened,"
+                                    " not-done if it surely did not"), len(self.TEXTS), said)
+        self.assertFalse(os.path.exists(self.given))
+
+    def test_a_command_with_the_answer_put_in_records_that_answer_alone(self):
+        commands = [it for it in self.printed().splitlines() if " answer " in it]
+        self.assertEqual(len(commands), len(self.TEXTS))
+        for verdict, it in zip(("done", "not-done", "done"), commands):
+            self.assertEqual(self.paste(it)[0], Status.WORDS)
+            self.assertEqual(self.paste(it[:-len("ANSWER")] + verdict)[0], Status.DONE)
+        with open(self.given, encoding="utf-8") as file:
+            self.assertEqual(file.read(), "1.1\t1\trent 700 to Ada\tdone\n"
+                             "1.2\t2\tpay -- to Ben ANSWER\tnot-done\n1.3\t3\t-rf\tdone\n")
+
+    def test_the_sentence_on_the_answer_stands_below_all_doubts(self):
+        lines = self.printed().splitlines()
+        self.assertEqual(lines[-3], "Put done in place of ANSWER if it happened, or not-done if it"
+                                    " surely did not happen.")
+        self.assertEqual(lines[-4], f"  {ROOT}/amo_jobs answer --worker-program {self.room}/worker"
+                                    " tonight.txt -- 1.3 3 -rf ANSWER")
 
 
 if __name__ == "__main__":

@@ -128,11 +128,12 @@ class Words(unittest.TestCase):
         for words in (four[:3], []):
             self.assertIn("or --from FILE", self.refused("answer", jobs="list", words=words))
 
-    def test_the_answer_stands_last(self):
-        self.assertEqual(
-            self.refused("answer", run="/run", words=["3", "text", "not-done", "--now"]),
-            "answer `--now`: it isn't done or not-done; give one of these last, and options before"
-            " --")
+    def test_the_answer_stands_last_and_its_placeholder_is_refused(self):
+        for word in ("--now", "ANSWER", "Done", "done|not-done", ""):
+            self.assertEqual(
+                self.refused("answer", run="/run", words=["3", "text", "not-done", word]),
+                f"answer `{word}`: it isn't valid; write done if it happened, not-done if it surely"
+                " did not, and options before --")
 
     def test_the_text_of_an_answer_is_one_line(self):
         words = ["1.2", "3", "a\nb", "done"]

@@ -126,8 +126,8 @@ IDENTITY = [
 ]
 # Mistakes in the lines that a person copies from `doubts`.
 COPIED = [
-    ("two_answers_in_a_line", ["{next_command(settings, *words, verdict)}", "{next_command(settings, *words)} done|not-done"],
-     ways.try_pasted, "isn't one whole answer"),
+    ("two_answers_in_a_line", ['"--", name, line, text, BLANK))', '"--", name, line, text), "done|not-done")'],
+     ways.try_pasted, "without an answer isn't refused"),
     ("words_as_they_are", [
         'return " ".join(map(quoted, [sys.argv[0], what, *settings.names, *words]))',
         'return " ".join([sys.argv[0], what, *settings.names, *words])'],

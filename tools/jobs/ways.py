@@ -181,17 +181,18 @@ def try_late_request_now(bench):
 
 
 def try_ages(bench):
-    """doubts says how long ago each attempt ended, for people and as JSON"""
+    """doubts says how long ago each attempt was recorded as over, for people and as JSON"""
     scene = sent(bench)
     told = scene.call("doubts")
-    want(re.search(r"^  started [-0-9: ]{19} [-+]\d{4} by worker 1, ended [-0-9: ]{19} [-+]\d{4}, \d+ (s|min|h)( \d+ s)? ago$", told, re.M), told)
+    want(re.search(r"^  started [-0-9: ]{19} [-+]\d{4} by worker 1, recorded as over [-0-9: ]{19} [-+]\d{4}, \d+ (s|min|h)( \d+ s)? ago$",
+                   told, re.M), told)
     found, = json.loads(scene.call("doubts", "--json"))
     recorded, = [it.ended for it in scene.look().intents.values()]
     want(found["ended"] == recorded and found["age"] >= 0, f"{found}, recorded at {recorded}")
     path = f"{scene.run}/journal.1"
     begun = folder.records_in(scene.run, "journal.1")[0]
     for ended, said in ((0, "ended at a time that is not known"),
-                        (found["ended"] + 10**6, "which is ahead of the clock")):
+                        (found["ended"] + 10**6, ", ahead of the clock")):
         records = [begun, b"doubt 1 %d" % ended]
         folder.put(path, journals.journal(folder.id_of(scene.run), "journal.1", records))
         told = scene.call("doubts")
@@ -238,33 +239,59 @@ def try_look(bench):
         line = crew.stderr.rpartition("; see the doubts: ")[2].splitlines()[:1]
         want(line == [wanted] and crew.returncode == DOUBTFUL, f"{line} in place of {wanted}")
         told = subprocess.run(["sh", "-c", wanted], **how).stdout
-        answers = re.findall(r"^    .* answer .* done$", told, re.M)
-        want(len(answers) == 2, f"two doubts have two answers: {told}")
-        for it in answers:
-            ran = subprocess.run(["sh", "-c", it], **how)
+        commands = re.findall(r"^  .* answer .* ANSWER$", told, re.M)
+        want(len(commands) == 2, f"two doubts have two commands: {told}")
+        for it in commands:
+            ran = subprocess.run(["sh", "-c", answered(it, "done")], **how)
             want(ran.stdout.startswith("recorded: line ") and ran.returncode == DONE, f"{it}: {ran.stderr}")
 
 
-HOSTILE = ["$(touch broken)", "INV-2 rent 700 to Ada", "it's \"2\"", "`touch broken`; touch broken | touch broken", "-rf",
+# A crew stops after ten doubts.
+HOSTILE = ["$(touch broken)", "INV-2 ANSWER", "it's \"2\"", "`touch broken`; touch broken | touch broken", "-rf",
            "a\ttab and \x1b[31m", "!touch > broken", "# none", "done", "not-done"]
 
 
+def answered(line, verdict):
+    """Returns a command that `doubts` has printed, with the answer put in."""
+    return line[:-len("ANSWER")] + verdict
+
+
 def try_pasted(bench):
-    """a line that `doubts` prints for an answer, pasted into bash, records that answer of that
-    line; nothing else is recorded or run"""
+    """a line that `doubts` prints, pasted into bash as it stands, is refused; with the answer put in it
+    records that answer of that line; nothing else is recorded or run"""
     scene = bench.scene([], 1, [])
     with open(scene.jobs, "w") as file:
         file.write("".join(f"{text}\n" for text in HOSTILE))
     scene.ends(scene.start(command=["sh", "-c", "kill -9 $$", "sh"]), DOUBTFUL)
     age_doubts(scene, "journal.1")
     lines = [it for it in scene.call("doubts").splitlines() if " answer " in it]
-    want(len(lines) == 2 * len(HOSTILE), f"{len(HOSTILE)} doubts have {len(lines)} lines to paste")
+    want(len(lines) == len(HOSTILE), f"{len(HOSTILE)} doubts have {len(lines)} lines to paste")
     wanted = ["doubt"] * len(HOSTILE)
-    for place in range(len(HOSTILE)):
+    for place, line in enumerate(lines):
         is_done = place % 2 == 0
-        paste(scene, lines[2 * place + (0 if is_done else 1)])
+        ran = paste(scene, line)
+        is_refused = ran.returncode == WORDS and not ran.stdout and "write done if it happened" in ran.stderr
+        want(is_refused, f"a line without an answer isn't refused: {line}: {ran}")
+        want(kinds_of(scene) == wanted, f"a line without an answer is recorded: {line}: {kinds_of(scene)}")
+        ran = paste(scene, answered(line, "done" if is_done else "not-done"))
+        is_taken = ran.returncode == DONE and re.fullmatch("recorded: line .*\n", ran.stdout)
+        want(is_taken, f"the line isn't one whole answer: {line}: {ran.stderr[-500:]}")
         wanted[place] = "done" if is_done else "open"
         want(kinds_of(scene) == wanted, f"not that answer alone: {kinds_of(scene)} in place of {wanted}")
+
+
+def try_pasted_text(bench):
+    """all that `doubts` prints, pasted into bash as it stands, records nothing"""
+    scene = bench.scene([], 1, [])
+    with open(scene.jobs, "w") as file:
+        file.write("rent 700 to Ada\nfood 90 to Ben\n")
+    scene.ends(scene.start(command=["sh", "-c", 'echo "sending $1"; kill -9 $$', "sh"]), DOUBTFUL)
+    told = scene.call("doubts")
+    want(told.count(" ANSWER\n") == 2 and told.count("| sending") == 2, told)
+    before = folder.read(f"{scene.run}/answers")
+    ran = paste(scene, told)
+    want(ran.stderr.count("write done if it happened") == 2, f"a line isn't refused: {ran}")
+    want(folder.read(f"{scene.run}/answers") == before and kinds_of(scene) == ["doubt"] * 2, f"an answer is recorded: {ran}")
 
 
 def age_doubts(scene, name):
@@ -274,14 +301,15 @@ def age_doubts(scene, name):
     folder.put(f"{scene.run}/{name}", journals.journal(folder.id_of(scene.run), name, old))
 
 
-def paste(scene, line):
-    """Pastes a line into an interactive bash, in a folder of its own that has to stay empty."""
+def paste(scene, text):
+    """Pastes a text into an interactive bash, in a folder of its own that has to stay empty. Returns
+    what came of it."""
     room = f"{scene.room}/pasted"
     os.makedirs(room, exist_ok=True)
-    ran = subprocess.run(["bash", "--norc", "--noprofile", "-i"], input=f"{line}\n", text=True, cwd=room, timeout=240,
+    ran = subprocess.run(["bash", "--norc", "--noprofile", "-i"], input=f"{text}\n", text=True, cwd=room, timeout=240,
                          capture_output=True, env={**scene.environment(), "HISTFILE": "/dev/null", "PS1": ""})
-    want(not os.listdir(room), f"the line runs something else: {line}: {os.listdir(room)}")
-    want(re.fullmatch("recorded: line .*\n", ran.stdout) and ran.returncode == DONE, f"the line isn't one whole answer: {line}: {ran.stderr[-500:]}")
+    want(not os.listdir(room), f"the text runs something else: {text}: {os.listdir(room)}")
+    return ran
 
 
 # A row has the words of a call that fails, with ROOM for the scene's folder, its status, and the
@@ -314,6 +342,8 @@ USAGE = [
     (["answer", "1.1", "1", "text"], "`answer`: an argument is missing; give JOBS or --run DIR, *"),
     (["answer", "--run", "x", "1.1", "1"], "`answer`: an argument is missing; give P.S LINE TEXT *"),
     (["answer", "list", "1.1", "1", "a\nb", "done"], "text `a\\nb`: no line holds a line feed; *"),
+    (["answer", "list", "--", "1.1", "1", "text", "ANSWER"],
+     "answer `ANSWER`: it isn't valid; write done if it happened, not-done if it surely did not, *"),
     (["forget"], "`forget`: the list is missing; give it, as in: amo_jobs forget tonight.txt"),
 ]
 OPTIONS = [
@@ -653,7 +683,7 @@ def fill(scene, disk, is_begun):
 
 PARTS = {"ways": [
     try_ends, try_arguments, try_refusals, try_lists, try_answers, try_late_request, try_late_request_now, try_ages, try_status, try_look, try_pasted,
-    try_messages, try_boot_id, try_timeout, try_last_net, try_leftovers,
+    try_pasted_text, try_messages, try_boot_id, try_timeout, try_last_net, try_leftovers,
     try_first_signal, try_second_signal, try_halt, try_one_runner, try_work, try_outputs, try_streams, try_many_messages, try_growing, try_killed_in_turn,
     try_disk_full,
 ]}
