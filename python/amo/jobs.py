@@ -1,9 +1,4 @@
-"""Runs a command for each line of a list, at most once, by the program amo_jobs.
-
-Begin with `run`. The list is a file with one job a line, such as
-
-    rent 700 to Ada
-    rent 650 to Ben
+"""Runs a command for each line of a list, at most once, by the program amo_jobs. Begin with `run`.
 
 >>> import tempfile
 >>> folder = tempfile.TemporaryDirectory(dir=".")
@@ -32,6 +27,8 @@ from typing import Any, Callable, Collection, Dict, List, NamedTuple, Optional, 
 
 from amo.version import PROGRAMS
 
+__all__ = ["run", "Ended", "Refused", "status", "Status", "Attempt", "doubts", "Doubt", "answer",
+           "STORES"]
 Path = Union[str, "os.PathLike[str]"]
 
 STORES = f"{PROGRAMS}/stores"  # the claim programs of amo_share
@@ -47,18 +44,15 @@ class Ended(enum.IntEnum):
 
 
 class Refused(RuntimeError):
-    """A call that amo_jobs refuses, or can't perform. The text is its message.
-
-    >>> try:
-    ...     run("no_such_list.txt", ["echo"], workers=1)
-    ... except Refused as refused:
-    ...     print(refused.status)
-    74
-    """
+    """A call that amo_jobs refuses, or can't perform. The text is its message, and `status` the
+    status by which it ended."""
 
     def __init__(self, status: int, text: str):
         super().__init__(text or f"amo_jobs: it ended with status {status}")
         self.status = status
+
+    def __reduce__(self) -> tuple[Any, ...]:  # a process of a pool sends it
+        return type(self), (self.status, str(self))
 
 
 class Attempt(NamedTuple):
@@ -86,10 +80,8 @@ class Status(NamedTuple):
 
 class Doubt(NamedTuple):
     """An attempt that is in doubt for good: nothing of its command runs on this machine any more.
-
-    **A request that the command has sent may still arrive.** Find out with the receiver what became
-    of it, before you give the answer.
-    """
+    **A request that it has sent may still arrive.** Find out with the receiver what became of it,
+    before you give the answer."""
 
     name: str  # such as 3.17
     line: int  # from 1

@@ -24,10 +24,8 @@ U64, U32 = ctypes.c_uint64, ctypes.c_uint32
 
 
 class Damaged(RuntimeError):
-    """The registers hold a value that no worker stores, so a job might be performed twice.
-
-    **Stop all workers.** Then find out what else writes to the registers.
-    """
+    """The registers hold a value that no worker stores, so a job might be performed twice. **Stop
+    all workers.** Then find out what else writes to the registers."""
 
 
 class Givens(ctypes.Structure):
@@ -98,10 +96,8 @@ class Library:
     """The calls for one run: so many jobs, workers, and a threshold."""
 
     def __init__(self, jobs: int, workers: int, beta: Optional[int] = None):
-        """Takes the numbers of a run. Without `beta` the threshold is the number of workers.
-
-        Raises ValueError if a number is beyond its limit.
-        """
+        """Takes the numbers of a run. Without `beta` the threshold is the number of workers. Raises
+        ValueError if a number is beyond its limit."""
         jobs, workers = whole(jobs), whole(workers)
         beta = workers if beta is None else whole(beta)
         for name, number in (("jobs", jobs), ("workers", workers), ("beta", beta)):

@@ -1,7 +1,4 @@
-"""The registers that the workers of a run share.
-
-Begin with `Registers`. `Memory` is for threads, `Shared` and `File` are for processes.
-"""
+"""The registers that the workers of a run share. Begin with `File`."""
 
 from __future__ import annotations
 
@@ -13,13 +10,16 @@ import os
 import struct
 import threading
 import time
+from functools import partial
 from multiprocessing.shared_memory import SharedMemory
-from typing import Any, Callable, Dict, Protocol, Union
+from typing import Any, Callable, Dict, NoReturn, Protocol, Union
 
+from amo._processes import is_forked, is_starting, is_variable
 from amo.library import Library, calls, whole
 
-PAUSE = 0.01  # seconds between two tries of a lock
-KEEP_LENGTH = 1  # FALLOC_FL_KEEP_SIZE
+__all__ = ["File", "Shared", "Memory", "Registers", "Guard", "Taken", "size"]
+_PAUSE = 0.01  # seconds between two tries of a lock
+_KEEP_LENGTH = 1  # FALLOC_FL_KEEP_SIZE
 
 
 class Taken(RuntimeError):
@@ -45,8 +45,8 @@ class Registers(Protocol):
         """Stores a value in the register at this place, and returns once all see it.
 
         It may raise an exception, whether the value was stored or not. **A store that fails must
-        never land after it returned**, as a request over a network may. The worker reads the
-        register anew. If a store lands later than that, a job may be performed twice."""
+        never land after it returned**, as a request over a network may: the worker reads the
+        register anew. Otherwise a job may be performed twice."""
         ...
 
 
@@ -58,8 +58,8 @@ class Guard:
         self._give_up, self._file, self.is_open = give_up, file, True
 
     def fileno(self) -> int:
-        """Returns the descriptor that holds the number. A command that inherits it holds the number
-        too. Raises OSError if no descriptor does."""
+        """Returns the descriptor that holds the number, as does each command that inherits it.
+        Raises OSError if no descriptor does."""
         if self._file < 0 or not self.is_open:
             raise OSError(errno.EBADF, "no descriptor holds the number of this worker")
         return self._file
@@ -73,6 +73,10 @@ class Guard:
     def __del__(self) -> None:
         self.close()
 
+    def __reduce__(self) -> NoReturn:
+        raise TypeError("guard: a copy would give the number up while this one holds it; call the"
+                        " `guard` of the registers in the process that holds the number")
+
 
 def size(workers: int, jobs: int) -> int:
     """Returns how many bytes the registers of a run take.
@@ -83,13 +87,15 @@ def size(workers: int, jobs: int) -> int:
     return 8 * Library(jobs, workers).word_count()
 
 
-class Words:
+class _Words:
     """Registers in memory that this process can write, loaded and stored by libamo."""
+
+    _instead = "give each process the path, and open an amo.File there"  # the remedy of errors
 
     def __init__(self, buffer: Any, workers: int, jobs: int):
         """Takes a buffer that stays where it is, and is 0 at first. Raises ValueError if it is too
         short, or not aligned."""
-        self._calls, self._length = calls(), size(workers, jobs)
+        self._calls, self._length, self._is_early = calls(), size(workers, jobs), is_starting()
         self.numbers = whole(workers), whole(jobs)
         if memoryview(buffer).nbytes < self._length:
             raise ValueError(f"registers: they have {memoryview(buffer).nbytes} bytes; give"
@@ -111,21 +117,40 @@ class Words:
         """Lets go of the memory. No access may follow."""
         self._length, self._start, self._bytes = 0, 0, None
 
+    def _check_process(self) -> None:
+        """Raises RuntimeError if each process has registers of its own."""
+        if self._is_made_anew():
+            raise RuntimeError(f"registers: an import in process {os.getpid()} of multiprocessing"
+                               f" has made them, so other processes have others; {self._instead}")
+
+    def _is_made_anew(self) -> bool:
+        return False
+
+    def __reduce__(self) -> NoReturn:
+        raise TypeError(f"registers: they can't be copied, or sent to a process; {self._instead}")
+
     def _address(self, place: int) -> int:
         if not 0 <= 8 * place < self._length:
-            raise IndexError(f"register {place}: there are {self._length // 8}")
+            raise IndexError(f"register {place}: there are {self._length // 8}; open the registers"
+                             " anew if they were closed")
         return self._start + 8 * place
 
 
-class Memory(Words):
-    """Registers for the threads of one process. A child process has a copy, and can't work on it.
+class Memory(_Words):
+    """Registers for the threads of one process.
 
     >>> registers = Memory(workers=2, jobs=3)
     >>> registers.load(1)
     0
+
+    **If each process makes a Memory, each performs every job.** Take a `File` for processes.
     """
 
+    _instead = "open an amo.File in each process. A Memory is for threads of one process: make it" \
+               " in a function, as a local variable"
+
     def __init__(self, workers: int, jobs: int):
+        """Raises ValueError if a number is beyond its limit."""
         super().__init__(bytearray(size(workers, jobs)), workers, jobs)
         self._process = os.getpid()
         self._locks: Dict[int, threading.Lock] = {it: threading.Lock()
@@ -134,52 +159,77 @@ class Memory(Words):
     def guard(self, number: int) -> Guard:
         """Holds the number of a worker. Raises Taken if another part of this process holds it, and
         RuntimeError in another process."""
-        if os.getpid() != self._process:
-            raise RuntimeError(f"registers: they belong to process {self._process} alone; give"
-                               " processes a File, or a Shared")
+        self._check_process()
         lock = self._locks[number]
         if not lock.acquire(blocking=False):
-            raise taken(number)
+            raise Taken(f"worker {number}: another part of this process has this number; close that"
+                        " Worker, or give another number")
         return Guard(lock.release)
 
+    def _check_process(self) -> None:
+        if os.getpid() != self._process:
+            raise RuntimeError(f"registers: this Memory belongs to process {self._process}, and"
+                               f" process {os.getpid()} has a copy; open an amo.File in each")
+        super()._check_process()
 
-class Shared(Words):
-    """Registers in a shared memory, which processes reach by its name.
+    def _is_made_anew(self) -> bool:
+        return self._is_early or is_variable(self)
+
+
+class Shared(_Words):
+    """Registers in a shared memory, for processes of `multiprocessing`.
 
     >>> memory = SharedMemory(create=True, size=size(workers=2, jobs=3))
     >>> registers = Shared(memory, workers=2, jobs=3)
     >>> registers.load(1)
     0
-    >>> registers.close()
+    >>> registers.close()  # before the memory
     >>> memory.close()
-    >>> memory.unlink()
+    >>> memory.unlink()  # once all processes have ended
 
-    Start the processes by `multiprocessing`, and create the memory in the process above them. A
-    process that is killed leaves the memory there. **The memory goes with the last process of the
-    tree that made it**: once the maker and all processes below it have ended, Python unlinks the
-    memory. **Then begin no new registers over the same jobs**, unless a journal of yours shows
-    which jobs were begun: otherwise each may be performed again. If the whole program may be
-    started again, take a `File`.
-
-    Until Python 3.13, a process that wasn't started by `multiprocessing` unlinks the memory when it
-    ends. From then on, SharedMemory takes track=False.
+    Make the memory in the process above them, in a function, and hand it to each. **The memory goes
+    with the last process of the tree that made it**: Python unlinks it then. **Begin no new
+    registers over the same jobs**, unless a journal of yours shows which jobs were begun. If the
+    whole program may be started again, take a `File`. Until Python 3.13, a process that wasn't
+    started by `multiprocessing` unlinks the memory when it ends. From then on, SharedMemory takes
+    track=False.
     """
 
+    _instead = "make the SharedMemory in a function of the process above, give it to each process" \
+               " as an argument, and make an amo.Shared there"
+
     def __init__(self, memory: SharedMemory, workers: int, jobs: int):
+        """Raises ValueError if the memory is too short for the numbers, and OSError."""
         super().__init__(memory.buf, workers, jobs)
         # kept, and freed after the bytes, since a memory that is in use can't be closed
         self._memory, self._path = memory, f"/dev/shm/{memory.name.lstrip('/')}"
+        self._inode = os.stat(getattr(memory, "_fd", self._path)).st_ino
 
     def guard(self, number: int) -> Guard:
         """Holds the number of a worker, by a lock on a byte of the memory's file. Raises Taken if
-        another process holds it, and OSError."""
+        another process holds it, and OSError, also if the memory was unlinked."""
+        self._check_process()
+        try:
+            return _guard_by(self._path, os.O_RDWR, number, partial(self._take, number))
+        except FileNotFoundError as error:
+            raise OSError(error.errno, f"memory `{self._memory.name}`: it was unlinked, so no lock"
+                                       f" can hold worker {number}; unlink a memory once all its"
+                                       " processes have ended") from None
+
+    def _take(self, number: int, file: int) -> None:
+        if os.fstat(file).st_ino != self._inode:
+            raise FileNotFoundError(errno.ENOENT, "another memory has the name")
         lock = struct.pack("hhqqi", fcntl.F_WRLCK, os.SEEK_SET, number, 1, 0)
-        return guard_by(self._path, os.O_RDWR, number,
-                        lambda file: fcntl.fcntl(file, fcntl.F_OFD_SETLK, lock))
+        fcntl.fcntl(file, fcntl.F_OFD_SETLK, lock)
+
+    def _is_made_anew(self) -> bool:
+        if not getattr(self._memory, "_flags", 0) & os.O_CREAT:  # it was found by its name
+            return False
+        return not is_forked() and (self._is_early or is_variable(self, self._memory))
 
 
-class File(Words):
-    """Registers in a file, which is made if it is missing.
+class File(_Words):
+    """Registers in a file, which is made if it is missing. Programs in C and Rust may share it.
 
     >>> import tempfile
     >>> folder = tempfile.TemporaryDirectory()
@@ -187,16 +237,13 @@ class File(Words):
     >>> registers.load(1)
     0
 
-    Choose a file on a local disk, in a folder that nobody cleans. For each worker there is a lock
-    on the file `PATH.NUMBER`. `PATH.boot` has the boot of the machine, and the numbers of workers
-    and jobs. **Keep these files together**: if all are gone, every job is handed out again. Remove
-    all of them once no worker lives and no job is to come. A program in C or Rust may share the
-    file: examples/c/crew.c does.
+    Choose a file on a local disk, in a folder that nobody cleans: /tmp and /dev/shm aren't. Each
+    worker has a lock, the file `PATH.NUMBER`. `PATH.boot` has the boot of the machine, and the
+    numbers of workers and jobs. The registers are refused after another boot, since they may lack
+    stores. They are refused if `PATH` or `PATH.boot` is gone, and so is a copy or a hard link.
 
-    Once the machine was started anew, the file may lack stores, so it is refused. It is refused too
-    if it is missing or empty and `PATH.boot` is there. Registers without `PATH.boot`, such as a
-    copy or a hard link, are refused. A file in /dev/shm or /tmp is lost with `PATH.boot`, so new
-    registers are made there, and every job is handed out again.
+    **Never remove these files to go on with the same jobs**: each job would be handed out again.
+    Remove all of them once no worker lives and no job is to come.
     """
 
     def __init__(self, path: Union[str, "os.PathLike[str]"], workers: int, jobs: int):
@@ -205,11 +252,11 @@ class File(Words):
         standard stream is closed."""
         # a link, or another working folder later, leads to the same locks
         self._path, length = os.path.realpath(path), size(workers, jobs)
-        check_streams()
+        _check_streams()
         file = os.open(self._path, os.O_RDWR | os.O_CREAT | os.O_CLOEXEC, 0o600)
         try:
             fcntl.flock(file, fcntl.LOCK_EX)  # since another process may make it too
-            self._make_or_check(file, length, note_of(workers, jobs))
+            self._make_or_check(file, length, _note_of(workers, jobs))
             fcntl.flock(file, fcntl.LOCK_UN)
             super().__init__(mmap.mmap(file, length), workers, jobs)
         finally:
@@ -218,10 +265,10 @@ class File(Words):
     def _make_or_check(self, file: int, length: int, note: str) -> None:
         """Makes the registers of an empty file, or checks those of another one."""
         if os.fstat(file).st_size == 0:
-            take_room(self._path, file, length)  # since a store without room ends the process
-            make_note(f"{self._path}.boot", note)
+            _take_room(self._path, file, length)  # since a store without room ends the process
+            _make_note(f"{self._path}.boot", note)
             os.truncate(file, length)
-        check_note(f"{self._path}.boot", note)
+        _check_note(f"{self._path}.boot", note)
         if os.fstat(file).st_size != length:
             raise ValueError(f"`{self._path}`: it has {os.fstat(file).st_size} bytes, and its"
                              f" registers have {length}; perform no job of them again, and use"
@@ -230,22 +277,17 @@ class File(Words):
     def guard(self, number: int) -> Guard:
         """Holds the number of a worker, by a lock on the file `PATH.NUMBER`. Raises Taken if
         another process holds it, and OSError."""
-        return guard_by(f"{self._path}.{number}", os.O_RDWR | os.O_CREAT, number,
-                        lambda file: fcntl.flock(file, fcntl.LOCK_EX | fcntl.LOCK_NB))
+        return _guard_by(f"{self._path}.{number}", os.O_RDWR | os.O_CREAT, number,
+                         lambda file: fcntl.flock(file, fcntl.LOCK_EX | fcntl.LOCK_NB))
 
 
-def boot() -> str:
-    """Returns the id of this boot of the machine, in a line."""
+def _note_of(workers: int, jobs: int) -> str:
+    """Returns the text that shows that registers of these numbers were made in this boot."""
     with open("/proc/sys/kernel/random/boot_id", encoding="ascii") as file:
-        return file.read()
+        return f"{file.read()}{whole(workers)} {whole(jobs)}\n"
 
 
-def note_of(workers: int, jobs: int) -> str:
-    """Returns the text of the file that shows that registers of these numbers were made."""
-    return f"{boot()}{whole(workers)} {whole(jobs)}\n"
-
-
-def make_note(path: str, note: str) -> None:
+def _make_note(path: str, note: str) -> None:
     """Makes the file that shows that registers were made, and has it on the disk when this returns.
     Raises ValueError if it exists: then registers were made, and are gone."""
     try:
@@ -260,7 +302,7 @@ def make_note(path: str, note: str) -> None:
         os.close(synced)
 
 
-def check_note(path: str, note: str) -> None:
+def _check_note(path: str, note: str) -> None:
     """Raises ValueError if the file is missing, or has another boot or other numbers."""
     try:
         with open(path, encoding="ascii", errors="replace") as file:
@@ -280,7 +322,7 @@ def check_note(path: str, note: str) -> None:
                          " path only for other jobs: there each job is handed out again")
 
 
-def check_streams() -> None:
+def _check_streams() -> None:
     """Raises OSError if a standard stream is closed. A file would get the number of that stream:
     then what is printed goes into the registers, and a new stream drops a lock."""
     for number in (0, 1, 2):
@@ -292,46 +334,44 @@ def check_streams() -> None:
                                        " begin again") from None
 
 
-def take_room(path: str, file: int, length: int) -> None:
+def _take_room(path: str, file: int, length: int) -> None:
     """Takes room on the disk for a file, which keeps its length, if the file system can do so.
     Raises OSError if there is no room."""
     take = ctypes.CDLL(None, use_errno=True).fallocate
     take.argtypes = [ctypes.c_int, ctypes.c_int, ctypes.c_int64, ctypes.c_int64]
-    if take(file, KEEP_LENGTH, 0, length) != 0:
+    if take(file, _KEEP_LENGTH, 0, length) != 0:
         code = ctypes.get_errno()
         if code not in (errno.EOPNOTSUPP, errno.ENOSYS):
             raise OSError(code, os.strerror(code), path)
 
 
-def check_numbers(registers: Registers, workers: int, jobs: int) -> None:
-    """Raises ValueError if the registers are those of this module, and were made for other
-    numbers."""
-    if isinstance(registers, Words) and registers.numbers != (workers, jobs):
+def check_registers(registers: Registers, workers: int, jobs: int) -> None:
+    """Raises ValueError if the registers are those of this module, and were made for other numbers,
+    and RuntimeError if they aren't those of all processes."""
+    if not isinstance(registers, _Words):
+        return
+    registers._check_process()
+    if registers.numbers != (workers, jobs):
         made = registers.numbers
         raise ValueError(f"registers: they were made for {made[0]} workers and {made[1]} jobs; give"
                          " these numbers, or other registers for other jobs")
 
 
-def guard_by(path: str, flags: int, number: int, lock: Callable[[int], object]) -> Guard:
+def _guard_by(path: str, flags: int, number: int, lock: Callable[[int], object]) -> Guard:
     """Returns the guard of a number by a lock on this file. The kernel drops the lock with the last
     process that has it."""
-    check_streams()
+    _check_streams()
     file = os.open(path, flags | os.O_CLOEXEC, 0o600)
     try:
         lock(file)
-    except BlockingIOError:
+    except BaseException as error:
         os.close(file)
-        raise taken(number) from None
-    except BaseException:
-        os.close(file)
-        raise
+        if not isinstance(error, BlockingIOError):
+            raise
+        raise Taken(f"worker {number}: another process, or another part of this one, holds its lock"
+                    f" `{path}`; give another number, or wait until that has ended, and each child"
+                    " that it has forked") from None
     return Guard(lambda: os.close(file), file)
-
-
-def taken(number: int) -> Taken:
-    """Returns the error for a number that another holder has."""
-    return Taken(f"worker {number}: another process, or another part of this one, has this number;"
-                 " wait until that has ended, or give another number")
 
 
 def guarded(registers: Registers, number: int, wait: bool) -> Guard:
@@ -345,6 +385,10 @@ def guarded(registers: Registers, number: int, wait: bool) -> Guard:
             found: Guard = guard(number)
             return found
         except Taken:
+            if is_starting():  # the process above may wait for this one
+                raise Taken(f"worker {number}: another process has this number, and this one begins"
+                            " with it while multiprocessing imports its main module; put what the"
+                            " program does below `if __name__ == \"__main__\":`") from None
             if not wait:
                 raise
-            time.sleep(PAUSE)
+            time.sleep(_PAUSE)

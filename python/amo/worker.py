@@ -7,10 +7,12 @@ import threading
 from typing import Iterator, List, NamedTuple, NoReturn, Optional
 
 from amo.library import BEGINNING, NOTHING, STORE, Heard, Item, Library, Next, whole
-from amo.registers import Registers, check_numbers, guarded
+from amo.registers import Registers, check_registers, guarded
+
+__all__ = ["Worker", "Standing", "standing", "bound"]
 
 
-class Life:
+class _Life:
     """The time of one process as a worker: what it has read, and the job in its hand."""
 
     def __init__(self, library: Library, registers: Registers, number: int):
@@ -77,30 +79,23 @@ class Worker:
     """A worker: a loop over it performs jobs that no other worker of the run performs.
 
     >>> from amo import Memory, Worker
-    >>> registers = Memory(workers=1, jobs=3)
-    >>> worker = Worker(registers, number=1, workers=1, jobs=3)
-    >>> for job in worker:
-    ...     print("pay", job)
-    pay 1
-    pay 2
-    pay 3
+    >>> with Worker(Memory(workers=1, jobs=3), number=1, workers=1, jobs=3) as worker:
+    ...     for job in worker:
+    ...         if job == 2:
+    ...             break
+    ...     print(worker.doubts, list(worker))
+    [2] [3]
 
     The body of the loop performs the job. When the loop asks for the next one, the job is recorded
     as done. If the body raises an exception, or leaves the loop, the job is *in doubt*: it may have
     been performed, and no worker gets it again. Another loop over the worker goes on with others.
-
-    >>> registers = Memory(workers=1, jobs=3)
-    >>> with Worker(registers, number=1, workers=1, jobs=3) as worker:
-    ...     for job in worker:
-    ...         break
-    ...     print(worker.doubts, list(worker))
-    [1] [2, 3]
 
     A process may be killed at any moment. The next one of that number finds the job in doubt, if
     there is one, when it makes its Worker: look at `doubts` before the loop, which records the job
     as done. If other workers end as they are killed, up to `beta + workers - 2` jobs stay undone.
 
     One thread uses a worker at a time. A signal handler may call `leave`, or raise an exception.
+    A child process has a copy, which it can't use: make a Worker of another number there.
     """
 
     def __init__(self, registers: Registers, number: int, workers: int, jobs: int, *,
@@ -111,17 +106,17 @@ class Worker:
 
         Raises Taken if another process acts as this worker; with `wait`, waits until it is gone.
         Raises ValueError if a number is beyond its limit or the registers were made for others,
-        Damaged if the registers hold a value that no worker stores, and whatever the registers
-        raise.
+        RuntimeError if other processes don't share them, Damaged if they hold a value that no
+        worker stores, and whatever they raise.
         """
         self._library, self._registers = Library(jobs, workers, beta), registers
         self.number = whole(number)  # since the name of its lock is made of it
         self._library.next(self.number, Heard())  # which is refused if there is no such worker
-        check_numbers(registers, workers, jobs)
+        check_registers(registers, workers, jobs)
         self._process, self._lock, self._leaves = os.getpid(), threading.RLock(), False
         self._is_unsure = False  # the last loop may have left a job in the hand
         self._doubts: List[int] = []
-        self._life: Optional[Life] = None  # the only one that makes accesses
+        self._life: Optional[_Life] = None  # the only one that makes accesses
         self._guard = guarded(registers, self.number, wait)
         try:
             self._begin()
@@ -135,21 +130,18 @@ class Worker:
         hand, and those of loops that were left. Nobody performs them. Find out what became of
         each. **Write them to a disk before a loop begins**: then only this object has them.
 
-        If an access of the last loop has failed, the registers show which job is in doubt. Then
-        this asks them, and raises whatever they raise.
-        """
-        with self._lock:
-            if self._is_unsure and self._guard.is_open and self._process == os.getpid():
+        If an access of the last loop has failed, this asks the registers which job is in doubt, and
+        raises whatever they raise."""
+        with self._own_lock():
+            if self._is_unsure and self._guard.is_open and not self._is_copy():
                 self._begin()
             return list(self._doubts)
 
     def __iter__(self) -> Iterator[int]:
-        """Begins a loop. An earlier loop over this worker can't go on.
-
-        Raises RuntimeError if it finds a job in doubt that `doubts` didn't have, as one that is in
-        the hand of an earlier loop. From then on `doubts` has it, and a loop can begin.
-        """
-        with self._lock:
+        """Begins a loop. An earlier loop over this worker can't go on. Raises RuntimeError if it
+        finds a job in doubt that `doubts` didn't have, as one that is in the hand of an earlier
+        loop. From then on `doubts` has it, and a loop can begin."""
+        with self._own_lock():
             self._check_idle()
             self._check_holder()
             life = self._life
@@ -165,32 +157,20 @@ class Worker:
 
     def leave(self) -> None:
         """Has the loop end once its job is recorded as done, so that other workers get the rest. If
-        no loop goes on, the next one ends without a job.
-
-        >>> from amo import Memory, Worker
-        >>> worker = Worker(Memory(workers=1, jobs=9), number=1, workers=1, jobs=9)
-        >>> for job in worker:
-        ...     if job == 2:
-        ...         worker.leave()
-        >>> worker.doubts
-        []
-        """
+        no loop goes on, the next one ends without a job."""
         self._leaves = True
 
     def fileno(self) -> int:
-        """Returns the descriptor of the lock that shows that this worker lives.
-
-        Hand it to a command that performs a job, by `pass_fds=[worker.fileno()]` of subprocess.run.
-        Then nobody else begins as this worker before the command is gone too. Raises OSError if the
-        registers have no such lock.
-        """
+        """Returns the descriptor of the lock that shows that this worker lives. Give it to commands
+        that perform a job, by `pass_fds=[worker.fileno()]` of subprocess.run: then nobody else
+        begins as this worker before they are gone too. Raises OSError if there is no lock."""
         return self._guard.fileno()
 
     def close(self) -> None:
         """Ends the worker, so that another process may begin with its number. The job in hand is in
         doubt. Raises RuntimeError in a signal handler that comes between two accesses, since the
         others would follow."""
-        with self._lock:
+        with self._own_lock():
             self._check_idle()
             self._end(self._life)
             self._guard.close()
@@ -205,16 +185,16 @@ class Worker:
     def __exit__(self, *_: object) -> None:
         self.close()
 
-    def _begin(self) -> Life:
+    def _begin(self) -> _Life:
         """Begins a life for the next loop. It finds out whether an earlier one has left a job in
         the hand."""
         # in its place at once: if a signal handler begins another one meanwhile, this can't go on
-        self._life = life = Life(self._library, self._registers, self.number)
+        self._life = life = _Life(self._library, self._registers, self.number)
         self._add_doubt(life.begin())
         self._is_unsure = False
         return life
 
-    def _jobs(self, life: Life) -> Iterator[int]:
+    def _jobs(self, life: _Life) -> Iterator[int]:
         try:
             while self._asked(life):
                 if life.job:
@@ -223,9 +203,9 @@ class Worker:
         finally:
             self._end(life)  # also if an exception came in the middle of accesses
 
-    def _asked(self, life: Life) -> bool:
+    def _asked(self, life: _Life) -> bool:
         """Finds out what is next. Returns False if the loop has ended."""
-        with self._lock:
+        with self._own_lock():
             self._enter(life)
             goes_on = not (self._leaves and life.leave()) and life.ask()
             if not goes_on:
@@ -233,14 +213,14 @@ class Worker:
             life.is_busy = False
             return goes_on
 
-    def _carry_out(self, life: Life) -> None:
+    def _carry_out(self, life: _Life) -> None:
         """Makes the accesses that come next."""
-        with self._lock:
+        with self._own_lock():
             self._enter(life)
             life.carry_out()
             life.is_busy = False
 
-    def _enter(self, life: Life) -> None:
+    def _enter(self, life: _Life) -> None:
         """Keeps signal handlers away from the accesses that follow. Raises RuntimeError if another
         loop has begun, or the worker can't be used."""
         life.is_busy = True  # first of all, since a handler may come between these lines
@@ -249,9 +229,17 @@ class Worker:
             raise RuntimeError(f"worker {self.number}: another loop over it has begun; go on with"
                                " that one")
 
+    def _own_lock(self) -> threading.RLock:
+        """Returns the lock. A child process gets another one, since a thread that held the lock as
+        the child was forked isn't there."""
+        return threading.RLock() if self._is_copy() else self._lock
+
+    def _is_copy(self) -> bool:
+        return self._process != os.getpid()
+
     def _check_idle(self) -> None:
         """Raises RuntimeError if a loop makes its accesses, in which a signal handler came."""
-        if self._life and self._life.is_busy:
+        if self._life and self._life.is_busy and not self._is_copy():
             raise RuntimeError(f"worker {self.number}: a signal handler uses it in the middle of an"
                                " access; call leave() there, or raise an exception")
 
@@ -259,12 +247,13 @@ class Worker:
         """Raises RuntimeError if this process doesn't hold the number."""
         if not self._guard.is_open:
             raise RuntimeError(f"worker {self.number}: it is closed; make another Worker")
-        if self._process != os.getpid():
-            raise RuntimeError(f"worker {self.number}: it belongs to process {self._process}; make"
-                               " a Worker in the process that uses it")
+        if self._is_copy():
+            raise RuntimeError(f"worker {self.number}: it belongs to process {self._process}, and"
+                               f" process {os.getpid()} has a copy; make a Worker in each process,"
+                               " of a number of its own")
 
-    def _end(self, life: Optional[Life]) -> None:
-        with self._lock:
+    def _end(self, life: Optional[_Life]) -> None:
+        with self._own_lock():
             if life:
                 self._add_doubt(life.job)
             if life and life is self._life:
@@ -293,7 +282,7 @@ def standing(registers: Registers, workers: int, jobs: int) -> Standing:
     Standing(recorded=[1, 2, 3], in_hand=[], free=[4])
     """
     library = Library(jobs, workers)
-    check_numbers(registers, workers, jobs)
+    check_registers(registers, workers, jobs)
     words = [registers.load(place) for place in range(library.word_count())]
     recorded, in_hand = [], []
     for worker in range(1, workers + 1):

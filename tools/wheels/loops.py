@@ -1,5 +1,6 @@
 #!/usr/bin/env python3
-"""Tests loops over a worker of the installed module: how they end, and who may begin one.
+"""Tests loops over a worker of the installed module: how they end, and who may begin one. The tests
+of children.py belong to them.
 
   loops.py [NAME..]
 """
@@ -28,7 +29,9 @@ sys.dont_write_bytecode = True
 
 import amo
 from amo import jobs as lists
+from children import Children, Payday
 
+__all__ = ["Children", "Payday"]  # unittest.main runs them too
 # Makes a shared memory, prints its name and the number of a child process, and waits with it.
 MAKER = """
 import os, signal, sys, amo

@@ -21,14 +21,15 @@ class Mistake(NamedTuple):
 LOOPS = "Loops.test_"
 INTERRUPTS = "Interrupts.test_"
 NUMBERS = "Numbers.test_"
-# Files of the module `amo`, and tests of tools/wheels/loops.py.
+CHILDREN = "Children.test_"
+# Files of the module `amo`, and tests of tools/wheels/loops.py and children.py.
 PYTHON = [Mistake(f"amo/{path}", old, new, test) for path, old, new, test in (
     ("worker.py", "self._check_idle()\n            self._end", "self._end",
      f"{LOOPS}a_worker_that_is_closed_between_two_accesses"),
     ("worker.py", "self._check_idle()\n            self._check_holder", "self._check_holder",
      f"{INTERRUPTS}a_loop_within_a_loop"),
-    ("worker.py", "self._life = life = Life(self._library, self._registers, self.number)\n"
-     "        self._add_doubt(life.begin())", "life = Life(self._library, self._registers,"
+    ("worker.py", "self._life = life = _Life(self._library, self._registers, self.number)\n"
+     "        self._add_doubt(life.begin())", "life = _Life(self._library, self._registers,"
      " self.number)\n        self._add_doubt(life.begin())\n        self._life = life",
      f"{LOOPS}a_signal_that_begins_a_loop_as_another_begins"),
     ("worker.py", "        life.is_busy = True  # first of all, since a handler may come between"
@@ -54,19 +55,43 @@ PYTHON = [Mistake(f"amo/{path}", old, new, test) for path, old, new, test in (
      f"{NUMBERS}a_number_that_two_workers_have_by_two_texts"),
     ("library.py", "if not 0 <= worker < ABOVE:", "if False:",
      f"{NUMBERS}a_number_that_two_workers_have_by_two_texts"),
-    ("registers.py", "        check_streams()\n        file", "        file",
+    ("registers.py", "        _check_streams()\n        file", "        file",
      f"{NUMBERS}a_file_that_gets_the_number_of_a_standard_stream"),
-    ("registers.py", "    check_streams()\n    file", "    file",
+    ("registers.py", "    _check_streams()\n    file", "    file",
      f"{NUMBERS}a_file_that_gets_the_number_of_a_standard_stream"),
-    ("registers.py", "        check_note(f", "        if os.path.exists(f\"{self._path}.boot\"):\n"
-     "            check_note(f", f"{NUMBERS}registers_without_their_note"),
+    ("registers.py", "        _check_note(f", "        if os.path.exists(f\"{self._path}.boot\"):\n"
+     "            _check_note(f", f"{NUMBERS}registers_without_their_note"),
     ("registers.py", "if found != note:", "if False:", f"{NUMBERS}a_file_of_another_run"),
-    ("worker.py", "        check_numbers(registers, workers, jobs)\n        self._process",
+    ("worker.py", "        check_registers(registers, workers, jobs)\n        self._process",
      "        self._process", f"{NUMBERS}other_numbers_than_those_of_the_registers"),
-    ("worker.py", "    check_numbers(registers, workers, jobs)\n    words", "    words",
+    ("worker.py", "    check_registers(registers, workers, jobs)\n    words", "    words",
      f"{NUMBERS}other_numbers_than_those_of_the_registers"),
-    ("registers.py", "            take_room(self._path, file, length)", "            pass",
+    ("registers.py", "            _take_room(self._path, file, length)", "            pass",
      f"{NUMBERS}registers_that_find_no_room_later"),
+    ("worker.py", "threading.RLock() if self._is_copy() else self._lock", "self._lock",
+     f"{CHILDREN}a_child_that_waits_for_a_thread_of_its_parent"),
+    ("worker.py", "self._life.is_busy and not self._is_copy()", "self._life.is_busy",
+     f"{CHILDREN}a_child_that_waits_for_a_thread_of_its_parent"),
+    ("registers.py", "    registers._check_process()\n", "",
+     f"{CHILDREN}a_child_that_sees_an_old_copy"),
+    ("registers.py", "if os.fstat(file).st_ino != self._inode:", "if False:",
+     f"{CHILDREN}a_number_that_two_have_after_an_unlink"),
+    ("registers.py", "return self._is_early or is_variable(self)", "return self._is_early",
+     f"{CHILDREN}registers_that_each_process_makes"),
+    ("registers.py", "return self._is_early or is_variable(self)", "return is_variable(self)",
+     f"{CHILDREN}registers_that_each_process_makes"),
+    ("registers.py", "(self._is_early or is_variable(self, self._memory))", "self._is_early",
+     f"{CHILDREN}registers_that_each_process_makes"),
+    ("registers.py", "not is_forked() and ", "", f"{CHILDREN}registers_that_each_process_makes"),
+    ("registers.py", "            if is_starting():", "            if False:",
+     f"{CHILDREN}a_main_module_that_waits_for_its_own_worker"),
+    ("registers.py", "def __reduce__(self) -> NoReturn:\n        raise TypeError(\"guard",
+     "def copied(self) -> NoReturn:\n        raise TypeError(\"guard",
+     f"{CHILDREN}registers_that_are_sent"),
+    ("registers.py", "def __reduce__(self) -> NoReturn:\n        raise TypeError(f\"registers",
+     "def copied(self) -> NoReturn:\n        raise TypeError(f\"registers",
+     f"{CHILDREN}registers_that_are_sent"),
+    ("jobs.py", "def __reduce__", "def copied", f"{CHILDREN}an_error_that_a_pool_waits_for"),
 )]
 # Files of the crates, and tests of the crate `amo`: its file and its name.
 RUST = [Mistake(f"amo/src/{path}", old, new, test) for path, old, new, test in (
