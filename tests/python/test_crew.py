@@ -61,7 +61,7 @@ class Crews(unittest.TestCase):
 
     def test_a_child_from_before_the_crew_is_not_waited_for(self):
         # As in an entry point of a container, whose shell becomes the crew.
-        script = 'sleep 20 2> /dev/null & echo $! > "$0"; exec "$@"'
+        script = f'sleep {10 * SECONDS} 2> /dev/null & echo $! > "$0"; exec "$@"'
         helper = f"{self.room}/helper"
         code, said = self.ended(["sh", "-c", script, helper, *self.words()])
         os.kill(int(self.text(helper)), signal.SIGKILL)  # it is still there
