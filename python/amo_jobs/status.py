@@ -26,8 +26,8 @@ from amo_watch.texts import dated, lasting, Output, outputs_of
 ANSWERS = {"done": "If it happened:", "not-done": "If it surely did not happen:"}
 BLANK = "ANSWER"  # in a printed command, in place of an answer; it is refused as it stands
 # Printed below all doubts, with the run's id: no lock shows these processes.
-NOTES = (f"Put done in place of {BLANK} if it happened, or not-done if it surely did not happen.\n"
-         "If a runner was killed, list the processes that its commands left, before an answer:\n"
+NOTES = (f"# Put done in place of {BLANK} if it happened, not-done if it surely did not happen.\n"
+         "# If a runner was killed, list the processes that its commands left, before an answer:\n"
          "  grep -lszx AMO_RUN_ID={} /proc/[0-9]*/environ | cut -d/ -f3"
          " | xargs -rn1 ps -o pid=,args= -p")
 NO_PROCESS = "its worker is alive, or a process of another user"
@@ -66,8 +66,8 @@ def doubts(settings: Settings, program: Program) -> int:
         return Status.DONE
     for it in found:
         name, line, text = it["intent"], str(it["line"]), it["text"]
-        print(f"{name}, line {line}: {visible(text)}")
-        print(f"  started {dated(it['time'])} by worker {name.split('.')[0]}, {how_old(it)}")
+        print(f"# {name}, line {line}: {visible(text)}")
+        print(f"#   started {dated(it['time'])} by worker {name.split('.')[0]}, {how_old(it)}")
         print("".join(map(shown, outputs_of(folders, name))), end="")
         print(" ", next_command(settings, "answer", "--", name, line, text, BLANK))
     if found:
@@ -164,6 +164,6 @@ def how_old(doubt: Dict[str, Any]) -> str:
 
 
 def shown(output: Output) -> str:
-    """Returns the end of what a command wrote to a file, line by line."""
-    end = "".join(f"    | {visible(line)}\n" for line in output.end)
-    return f"  {output.path}, {output.size} bytes:\n{end}"
+    """Returns the end of what a command wrote to a file, as lines that a shell passes over."""
+    end = "".join(f"#     | {visible(line)}\n" for line in output.end)
+    return f"#   {visible(output.path)}, {output.size} bytes:\n{end}"

@@ -190,20 +190,20 @@ class Ages(unittest.TestCase):
             path = f"{room}/out.1.2"
             self.assertEqual(texts.outputs_of([room], "1.2"), [])
             for data, wanted in [
-                    (b"", ""), (b"a\n\x1b[2J\n", f"  {path}, 7 bytes:\n    | a\n    | \\x1b[2J\n"),
-                    (b"1\n2\n3\n4\n5\n6\n7", f"  {path}, 13 bytes:\n    | 3\n    | 4\n    | 5\n"
-                     "    | 6\n    | 7\n"),
-                    (b"y" * 3000, f"  {path}, 3000 bytes:\n    | {'y' * 1000}\n")]:
+                    (b"", ""), (b"a\n\x1b[2J\n", f"{path}, 7 bytes:\n  | a\n  | \\x1b[2J\n"),
+                    (b"1\n2\n3\n4\n5\n6\n7", f"{path}, 13 bytes:\n  | 3\n  | 4\n  | 5\n  | 6\n  | 7\n"),
+                    (b"y" * 3000, f"{path}, 3000 bytes:\n  | {'y' * 1000}\n")]:
                 with open(path, "wb") as file:
                     file.write(data)
                 found = map(status.shown, texts.outputs_of([room], "1.2"))
-                self.assertEqual("".join(found), wanted)
+                lines = [f"#   {it}\n" for it in wanted.splitlines()]
+                self.assertEqual("".join(found), "".join(lines))
 
 
 class Pasted(unittest.TestCase):
     """What `doubts` prints of three attempts, and a worker that keeps the answers that it gets."""
 
-    TEXTS = ["rent 700 to Ada", "pay -- to Ben ANSWER", "-rf"]
+    TEXTS = ["rent 700 to O'Neil; touch broken", "pay $(touch broken) > broken ANSWER", "-rf"]
     ATTEMPTS = [{"intent": f"1.{k}", "line": k, "text": text, "time": 1, "ended": 2, "age": 3}
                 for k, text in enumerate(TEXTS, 1)]
 
@@ -220,7 +220,7 @@ class Pasted(unittest.TestCase):
         """Returns what `doubts` prints, with the output of one command."""
         os.mkdir(f"{self.room}/run")
         with open(f"{self.room}/run/out.1.1", "w", encoding="ascii") as file:
-            file.write("sending rent 700 to Ada\n")
+            file.write("it's `touch broken`\n")
         settings = Settings("doubts", run=f"{self.room}/run", names=[
             "--worker-program", f"{self.room}/worker", "tonight.txt"])
         program = types.SimpleNamespace(more=[], told=lambda *_: self.ATTEMPTS)
@@ -243,6 +243,7 @@ class Pasted(unittest.TestCase):
         self.assertEqual(said.count("answer `ANSWER`: it isn't valid; write done if it happened,"
                                     " not-done if it surely did not"), len(self.TEXTS), said)
         self.assertFalse(os.path.exists(self.given))
+        self.assertFalse(os.path.exists(f"{self.room}/broken"))
 
     def test_a_command_with_the_answer_put_in_records_that_answer_alone(self):
         commands = [it for it in self.printed().splitlines() if " answer " in it]
@@ -251,12 +252,12 @@ class Pasted(unittest.TestCase):
             self.assertEqual(self.paste(it)[0], Status.WORDS)
             self.assertEqual(self.paste(it[:-len("ANSWER")] + verdict)[0], Status.DONE)
         with open(self.given, encoding="utf-8") as file:
-            self.assertEqual(file.read(), "1.1\t1\trent 700 to Ada\tdone\n"
-                             "1.2\t2\tpay -- to Ben ANSWER\tnot-done\n1.3\t3\t-rf\tdone\n")
+            self.assertEqual(file.read(), f"1.1\t1\t{self.TEXTS[0]}\tdone\n"
+                             f"1.2\t2\t{self.TEXTS[1]}\tnot-done\n1.3\t3\t-rf\tdone\n")
 
     def test_the_sentence_on_the_answer_stands_below_all_doubts(self):
         lines = self.printed().splitlines()
-        self.assertEqual(lines[-3], "Put done in place of ANSWER if it happened, or not-done if it"
+        self.assertEqual(lines[-3], "# Put done in place of ANSWER if it happened, not-done if it"
                                     " surely did not happen.")
         self.assertEqual(lines[-4], f"  {ROOT}/amo_jobs answer --worker-program {self.room}/worker"
                                     " tonight.txt -- 1.3 3 -rf ANSWER")

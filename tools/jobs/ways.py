@@ -184,7 +184,7 @@ def try_ages(bench):
     """doubts says how long ago each attempt was recorded as over, for people and as JSON"""
     scene = sent(bench)
     told = scene.call("doubts")
-    want(re.search(r"^  started [-0-9: ]{19} [-+]\d{4} by worker 1, recorded as over [-0-9: ]{19} [-+]\d{4}, \d+ (s|min|h)( \d+ s)? ago$",
+    want(re.search(r"^#   started [-0-9: ]{19} [-+]\d{4} by worker 1, recorded as over [-0-9: ]{19} [-+]\d{4}, \d+ (s|min|h)( \d+ s)? ago$",
                    told, re.M), told)
     found, = json.loads(scene.call("doubts", "--json"))
     recorded, = [it.ended for it in scene.look().intents.values()]
@@ -281,13 +281,13 @@ def try_pasted(bench):
 
 
 def try_pasted_text(bench):
-    """all that `doubts` prints, pasted into bash as it stands, records nothing"""
+    """all that `doubts` prints, pasted into bash as it stands, records and runs nothing"""
     scene = bench.scene([], 1, [])
     with open(scene.jobs, "w") as file:
-        file.write("rent 700 to Ada\nfood 90 to Ben\n")
+        file.write("rent 700 to O'Neil; touch broken\nfood $(touch broken) > broken\n")
     scene.ends(scene.start(command=["sh", "-c", 'echo "sending $1"; kill -9 $$', "sh"]), DOUBTFUL)
     told = scene.call("doubts")
-    want(told.count(" ANSWER\n") == 2 and told.count("| sending") == 2, told)
+    want(told.count(" ANSWER\n") == 2 and told.count("#     | sending") == 2, told)
     before = folder.read(f"{scene.run}/answers")
     ran = paste(scene, told)
     want(ran.stderr.count("write done if it happened") == 2, f"a line isn't refused: {ran}")
