@@ -191,7 +191,8 @@ class Ages(unittest.TestCase):
             self.assertEqual(texts.outputs_of([room], "1.2"), [])
             for data, wanted in [
                     (b"", ""), (b"a\n\x1b[2J\n", f"{path}, 7 bytes:\n  | a\n  | \\x1b[2J\n"),
-                    (b"1\n2\n3\n4\n5\n6\n7", f"{path}, 13 bytes:\n  | 3\n  | 4\n  | 5\n  | 6\n  | 7\n"),
+                    (b"1\n2\n3\n4\n5\n6\n7",
+                     f"{path}, 13 bytes:\n  | 3\n  | 4\n  | 5\n  | 6\n  | 7\n"),
                     (b"y" * 3000, f"{path}, 3000 bytes:\n  | {'y' * 1000}\n")]:
                 with open(path, "wb") as file:
                     file.write(data)
