@@ -301,7 +301,7 @@ def try_doubt(bench):
     first.start().ends(DOUBTFUL)
     lines, status = first.status()
     want("amo_jobs doubts --run" in lines[0] and status == DOUBTFUL, f"the status is {lines}, {status}")
-    found = re.findall(r"^(\d+\.\d+), line (\d+): (.*)$", first.person("doubts"), re.M)
+    found = re.findall(r"^# (\d+\.\d+), line (\d+): (.*)$", first.person("doubts"), re.M)
     want(found, "there is no doubt")
     for name, line, text in found:
         first.person("answer", "--now", "--", name, line, text, "not-done")
