@@ -205,7 +205,7 @@ class Scene:
         by hand after that."""
         if not os.path.exists(f"{self.run}/jobs"):
             return 0
-        found = re.findall(r"^(\d+\.\d+), line (\d+): (.*)$", self.call("doubts"), re.M)
+        found = re.findall(r"^# (\d+\.\d+), line (\d+): (.*)$", self.call("doubts"), re.M)
         for name, line, text in found:
             self.listed.append(name)
             self.tell(line, f"listed {name}")

@@ -143,7 +143,7 @@ def try_both_killed(bench):
     scene, crew, command, helper = fed(bench)
     scene.kill_crew(crew)
     os.kill(command, signal.SIGKILL)
-    until(lambda: scene.call("doubts").startswith("1.1, line 1: "), "it is listed")
+    until(lambda: scene.call("doubts").startswith("# 1.1, line 1: "), "it is listed")
     want(os.path.exists(f"/proc/{helper}"), "the helper has ended before")
 
 

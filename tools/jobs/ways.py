@@ -30,7 +30,7 @@ def try_ends(bench):
     told = scene.call("status", status=DOUBTFUL)
     want(told.startswith("5 lines: 2 done, 1 failed, 1 in doubt, 0 running, 1 untouched, 0 open\n"), told)
     told = scene.call("doubts")
-    want(re.search(r"^\d+\.\d+, line 4: 4 dies$", told, re.M), told)
+    want(re.search(r"^# \d+\.\d+, line 4: 4 dies$", told, re.M), told)
     want(scene.see_out(again=False) == FAILED, "an untouched line and a failed one are status 1")
     scene.call("again")
     want(kinds_of(scene)[2] == "open", "again opens the untouched line")
@@ -137,7 +137,7 @@ def sent(bench):
     scene.kill_crew(crew)
     for process in list(scene.processes("pay alice 100")):
         os.kill(process, signal.SIGKILL)
-    until(lambda: scene.call("doubts").startswith("1.1, line 1: pay alice 100\n"), "it is listed")
+    until(lambda: scene.call("doubts").startswith("# 1.1, line 1: pay alice 100\n"), "it is listed")
     return scene
 
 
