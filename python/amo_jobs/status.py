@@ -30,7 +30,7 @@ NOTES = (f"# Put done in place of {BLANK} if it happened, not-done if it surely 
          "# If a runner was killed, list the processes that its commands left, before an answer:\n"
          "  grep -lszx AMO_RUN_ID={} /proc/[0-9]*/environ | cut -d/ -f3"
          " | xargs -rn1 ps -o pid=,args= -p")
-NO_PROCESS = "its worker is alive, or a process of another user"
+NO_PROCESS = "its runner is at work, or a process of another user"
 
 
 # ---- the commands
@@ -68,7 +68,7 @@ def doubts(settings: Settings, program: Program) -> int:
         name, line, text = it["intent"], str(it["line"]), it["text"]
         print(f"# {name}, line {line}: {visible(text)}")
         print(f"#   started {dated(it['time'])} by worker {name.split('.')[0]}, {how_old(it)}")
-        print("".join(map(shown, outputs_of(folders, name))), end="")
+        print("".join(map(shown, outputs_of(folders, name))) or "#   no output was found\n", end="")
         print(" ", next_command(settings, "answer", "--", name, line, text, BLANK))
     if found:
         print(NOTES.format(id_of(settings.run)))
@@ -148,7 +148,7 @@ def listed(run: str, found: Dict[str, Any], states: Collection[str]) -> Iterator
     rows = [it for it in found["intents"] if it["state"] in states]
     held = holders(run, [it["intent"] for it in rows if it["state"] == "running"])
     for it in rows:
-        more = (f" -- {', '.join(held[it['intent']]) or NO_PROCESS}"
+        more = (f" -- {', '.join(dict.fromkeys(held[it['intent']])) or NO_PROCESS}"
                 if it["intent"] in held else "")
         yield f"{it['state']} {it['intent']}, line {it['line']}: {visible(it['text'])}{more}"
 

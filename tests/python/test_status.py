@@ -99,7 +99,7 @@ class Lists(unittest.TestCase):
         with mock.patch.object(status, "holders", return_value=held) as asked:
             self.assertEqual(list(status.listed("/run", self.FOUND, KINDS)), [
                 "running 1.2, line 7: a -- process 5 (pay), process 6 (curl)",
-                "running 2.1, line 8: b\\t -- its worker is alive, or a process of another user",
+                "running 2.1, line 8: b\\t -- its runner is at work, or a process of another user",
                 "doubt 3.4, line 9: c"])
             asked.assert_called_once_with("/run", ["1.2", "2.1"])
             asked.return_value = {}
