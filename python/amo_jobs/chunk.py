@@ -149,7 +149,9 @@ class Chunk:
     def take(self) -> bool:
         """Takes the chunk, unless another machine has it; returns whether it is this machine's, as
         it was recorded, or as the store answers."""
-        if not os.path.isdir(self.folder):
+        if os.path.isdir(self.folder):
+            self.check()  # once more, since it may have come here after the start
+        else:
             self.make()
         mark: str = self.note()["mark"]
         if not self.note("owner"):
@@ -182,9 +184,10 @@ class Chunk:
         # (the crew was killed, or one lives whose amo_share was killed)
         while status in (Status.LATER, Status.MEMORY) or status < 0:
             seconds, status = pause(self.sharing, seconds), self.run_crew()
-        is_left = (status in (Status.FAILED, Status.DOUBTFUL)
-                   and self.program.status(self.folder)["open"])
-        if is_left or status not in (Status.DONE, Status.FAILED, Status.DOUBTFUL):
+        found = self.program.status(self.folder)
+        ended = (Status.DONE, Status.FAILED, Status.DOUBTFUL)
+        is_left = status in ended and (found["open"] or found["lines"] <= self.last - self.first)
+        if is_left or status not in ended:
             raise End(Status.LEFT if is_left else status,
                       f"{self.title}: its crew has ended, and lines are open; do what the crew's"
                       " messages say, then start amo_share again")

@@ -67,6 +67,8 @@ class Progress:
     def conclude(self, status: Optional[int]) -> int:
         """Prints how all lines stand. Returns this status, or the one by the counts."""
         found = self.program.status(self.settings.run)
+        unknown = max(self.lines - found["lines"], 0)  # all, if no round was begun
+        found = {**found, "lines": found["lines"] + unknown, "open": found["open"] + unknown}
         if self.state.taken > MOST_TAKEN:
             Screen.tell(f"{self.state.taken - MOST_TAKEN} more lines were not started, since"
                         " another attempt stands against each")

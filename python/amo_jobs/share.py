@@ -191,9 +191,10 @@ def refuse_words(sharing: Sharing) -> None:
     if not sharing.claim:
         raise End(Status.WORDS, "argument --claim: it is empty; give a claim program, such as"
                                 " stores/etcd")
-    if "--results" in sharing.crew:
-        raise End(Status.WORDS, "argument --crew: `--results` isn't possible here; leave it out,"
-                                " and find the output in the chunks' folders")
+    for it in sharing.crew:
+        if it.partition("=")[0] in ("--results", "--help", "-h"):
+            raise End(Status.WORDS, f"argument --crew: `{visible(it)}` isn't possible here; leave"
+                                    " it out, and find the output in the chunks' folders")
     if not sharing.command:
         raise End(Status.WORDS, "command: it is missing; give it after --, as in: JOBS --"
                                 " ./send-payment {}")

@@ -10,7 +10,7 @@ import package  # noqa: F401
 from amo_jobs import progress
 from amo_jobs.messages import Screen
 from amo_jobs.settings import Settings
-from amo_jobs.statuses import KINDS
+from amo_jobs.statuses import KINDS, Status
 
 
 class Paces(unittest.TestCase):
@@ -50,6 +50,20 @@ class Bars(unittest.TestCase):
                     clock[0], state.ended = 1000.0 + second, count
                     it.show()
             return texts
+
+    def test_lines_that_the_run_does_not_know_are_open(self):
+        # The crew was stopped before its first round, or before the round that reads new lines.
+        for known, wanted in ((0, Status.LEFT), (3, Status.LEFT), (5, Status.DONE)):
+            found = {**dict.fromkeys(KINDS, 0), "done": known, "lines": known, "intents": []}
+            program = types.SimpleNamespace(status=lambda run, found=found: found)
+            with tempfile.NamedTemporaryFile("w") as file, \
+                    mock.patch.object(Screen, "tell") as tell:
+                file.write("a\n" * 5)
+                file.flush()
+                state = types.SimpleNamespace(taken=0)
+                it = progress.Progress(Settings(jobs=file.name, run="."), program, state)
+                self.assertEqual(it.conclude(None), wanted)
+            self.assertRegex(tell.call_args[0][0], f"^5 lines: {known} done, .* {5 - known} open")
 
     def test_the_end_says_what_to_do_about_each_line_that_is_not_done(self):
         it = types.SimpleNamespace(settings=Settings(names=["l"]))
