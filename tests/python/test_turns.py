@@ -29,7 +29,7 @@ class Digests(unittest.TestCase):
         room = tempfile.TemporaryDirectory()
         self.addCleanup(room.cleanup)
         self.crate = SimpleNamespace(folder=room.name, name="amo_two", kit=room.name)
-        self.put("KIT-ID", "kit 1\n")
+        self.put("KIT-ID", "kit-1 logic 1\n")
         self.put("src/lib.rt", CODE)
         self.put("specs/Lib.antt", "-- two\ntwo = 2 -- it\n")
         self.put("wrong-bodies/three.edit", "file: src/lib.rt\nold: 2\nnew: 3\n")
@@ -58,8 +58,11 @@ class Digests(unittest.TestCase):
         self.assertTrue(self.changes("proofs/two/Answers.antt", "p = q\n"))
         self.assertTrue(self.changes("wrong-bodies/three.edit", "file: src/lib.rt\nold: 2\nnew: 4\n"))
 
-    def test_another_toolchain_changes_it(self) -> None:
-        self.assertTrue(self.changes("KIT-ID", "kit 2\n"))
+    def test_another_logic_changes_it(self) -> None:
+        self.assertTrue(self.changes("KIT-ID", "kit-1 logic 2\n"))
+
+    def test_another_version_with_the_same_logic_changes_nothing(self) -> None:
+        self.assertFalse(self.changes("KIT-ID", "kit-2 logic 1\n"))
 
     def test_a_crate_is_recorded_beside_the_others(self) -> None:
         root = f"{self.crate.folder}/repository"
@@ -71,7 +74,7 @@ class Digests(unittest.TestCase):
         now = turns.digest(self.crate)
         self.assertEqual(turns.tried(root), {("amo_one", now), ("amo_two", now)})
 
-    def test_a_crate_is_recorded_for_each_toolchain(self) -> None:
+    def test_a_crate_is_recorded_for_each_logic(self) -> None:
         root = f"{self.crate.folder}/repository"
         os.makedirs(f"{root}/tests")
         with_first = turns.digest(self.crate)
@@ -81,7 +84,7 @@ class Digests(unittest.TestCase):
         turns.write(root, [self.crate])
         self.assertEqual(turns.tried(root), {("amo_two", with_first), ("amo_two", with_second)})
 
-    def test_a_later_record_replaces_that_of_its_toolchain(self) -> None:
+    def test_a_later_record_replaces_that_of_its_logic(self) -> None:
         root = f"{self.crate.folder}/repository"
         os.makedirs(f"{root}/tests")
         turns.write(root, [self.crate])
@@ -99,12 +102,12 @@ class Turns(unittest.TestCase):
         drawn = [turns.chosen(crate, bodies, part) for part in range(turns.PARTS)]
         self.assertEqual(sorted(map(id, sum(drawn, []))), sorted(map(id, bodies)))
 
-    def test_a_crate_has_its_turn_in_every_third_run(self) -> None:
+    def test_a_crate_has_its_turn_in_every_sixth_run(self) -> None:
         bodies = [body(f"f{it}") for it in range(200)]
         crate = SimpleNamespace(name="amo_two")
         turns_of_it = [it for it in range(turns.PARTS) if turns.chosen(crate, bodies, it)]
         first = turns_of_it[0]
-        self.assertEqual(turns_of_it, [first, first + 3, first + 6, first + 9])
+        self.assertEqual(turns_of_it, [first, first + 6, first + 12, first + 18])
 
     def test_crates_have_their_turns_in_different_runs(self) -> None:
         crates = [SimpleNamespace(name=f"amo_{it}") for it in range(40)]

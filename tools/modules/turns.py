@@ -1,11 +1,11 @@
 """Which mutants a run of `./test` tries.
 
 All mutants of a crate were tried when its line was written to tests/mutants_tried.txt. A crate has a
-line for each version of the toolchain with which they were tried. The line has that version, and a
-digest of the version and of the crate's code, definitions, proofs and mutants, without comments. If
-no line of the crate fits, a run tries all of them. Else the crate has its turn in every third run, and
-then a run tries the mutants of a quarter of its functions: to begin with a crate costs as much as many
-mutants. The number of commits decides which crates and functions.
+line for each logic of the toolchain by which they were tried. The line has that logic, and a digest of
+the logic and of the crate's code, definitions, proofs and mutants, without comments. If no line of the
+crate fits, a run tries all of them. Else the crate has its turn in every sixth run, and then a run
+tries the mutants of a quarter of its functions: to begin with a crate costs as much as many mutants.
+The number of commits decides which crates and functions.
 """
 
 from __future__ import annotations
@@ -18,8 +18,8 @@ import subprocess
 import edits
 
 # A crate has its turn once in so many runs, and each of its functions once in PARTS.
-EVERY = 3
-PARTS = 12
+EVERY = 6
+PARTS = 24
 TRIED = "tests/mutants_tried.txt"
 # A string or a character stays; a comment goes.
 TOKENS = {
@@ -41,9 +41,8 @@ def files_in(folder: str) -> list[str]:
 
 
 def digest(crate) -> str:
-    """Returns the digest of the toolchain's version, and of a crate's code, definitions, proofs and mutants."""
-    with open(f"{crate.kit}/KIT-ID", "rb") as version:
-        total = hashlib.sha256(version.read())
+    """Returns the digest of the toolchain's logic, and of a crate's code, definitions, proofs and mutants."""
+    total = hashlib.sha256(logic_of(crate.kit).encode())
     for part in ("src", "specs", "proofs", edits.FOLDER):
         for path in files_in(f"{crate.folder}/{part}"):
             with open(path, encoding="utf-8") as held:
@@ -54,21 +53,21 @@ def digest(crate) -> str:
     return total.hexdigest()[:32]
 
 
-def version_of(kit: str) -> str:
-    """Returns the version of the toolchain in this folder, which is one word."""
+def logic_of(kit: str) -> str:
+    """Returns the logic of the toolchain in this folder: the checksum by which its prover names it."""
     with open(f"{kit}/KIT-ID", encoding="utf-8") as held:
-        return held.read().split()[0]
+        return held.read().split()[2]
 
 
 def lines_of(root: str) -> dict[tuple[str, str], str]:
     """Returns the digest at which all mutants of each crate were tried, by the crate's name and the
-    toolchain's version."""
+    toolchain's logic."""
     try:
         with open(f"{root}/{TRIED}", encoding="utf-8") as held:
             lines = [it.split() for it in held if it.strip() and not it.startswith("#")]
     except FileNotFoundError:
         return {}
-    return {(name, version): fits for name, version, fits in lines}
+    return {(name, logic): fits for name, logic, fits in lines}
 
 
 def tried(root: str) -> set[tuple[str, str]]:
@@ -78,10 +77,10 @@ def tried(root: str) -> set[tuple[str, str]]:
 
 def write(root: str, crates: list) -> None:
     """Records that all mutants of these crates were tried as they are now, with their toolchain."""
-    lines = lines_of(root) | {(it.name, version_of(it.kit)): digest(it) for it in crates}
-    rows = [f"{name} {version} {lines[name, version]}" for name, version in sorted(lines)]
-    head = ("# Each crate, the version of a toolchain, and a digest of both when all mutants of the crate\n"
-            "# were tried with that toolchain (tools/wrong_bodies --write).")
+    lines = lines_of(root) | {(it.name, logic_of(it.kit)): digest(it) for it in crates}
+    rows = [f"{name} {logic} {lines[name, logic]}" for name, logic in sorted(lines)]
+    head = ("# Each crate, the logic of a toolchain, and a digest of both when all mutants of the crate\n"
+            "# were tried by that logic (tools/wrong_bodies --write).")
     with open(f"{root}/{TRIED}", "w", encoding="utf-8") as held:
         held.write("\n".join([head, *rows]) + "\n")
 
