@@ -1,7 +1,10 @@
 -- The content that a device keeps of its file, after writes that were made and writes that failed.
-use Rattle.std.proofs.Common.{◌≡◌, ◌⊎◌, ℕ, ◌+◌, ◌-◌, ◌≤◌, ◌<◌, List, [], ◌++◌, length, take, drop, min, refl, sym, ap, subst, ◌∙◌, arith, rules, inl, inr}
+use Rattle.std.proofs.Common.{◌≡◌, ◌⊎◌, ℕ, ◌+◌, ◌-◌, ◌≤◌, ◌<◌, List, [], ◌++◌, length, take, drop, max, min, refl, sym, ap, subst, ◌∙◌, arith, rules, inl, inr}
 use Rattle.std.proofs.lemmas.List.{take_all, take-append-drop, take-append-le, drop-append-le, length-take-le, length-drop, append-nil, append_assoc}
+use Rattle.std.proofs.lemmas.Bool.{cases_lt}
+use Rattle.std.proofs.lemmas.List.{drop-take}
 use Rattle.std.proofs.Math.ListN.{drop_of_length-le}
+use Rattle.std.proofs.Math.Seq.{take-append-add, take-append_seam}
 use Rattle.std.proofs.Math.Nat.{eq-or-lt_of_le}
 use Rattle.amo_journal.specs.Device.{Cut, Holds, WritesFront}
 
@@ -56,3 +59,35 @@ over_end old at bytes new k fits is holds =
 -- what a slice from some place on has
 pub all_behind : (k : ℕ) (bytes : List ℕ) → take (length bytes - k) (drop k bytes) ≡ drop k bytes
 all_behind k bytes = let len = length-drop k bytes in take_all (length bytes - k) (drop k bytes) (omega (arith, len))
+
+-- the file after a write that was cut short: the bytes that were added at its end are cut to those
+-- that were written
+short_front : (old : List ℕ) (at n : ℕ) (bytes : List ℕ) (inside : ℕ) → at ≤ length old → n ≤ length bytes → inside ≡ min (length bytes) (length old - at)
+    → take (max (length old) (at + n)) (old ++ drop inside bytes) ≡ old ++ drop (min inside n) (take n bytes)
+short_front old at n bytes inside fits some is = by_case (cases_lt inside n)
+  where
+    by_case : (inside < n) ⊎ (n ≤ inside) → take (max (length old) (at + n)) (old ++ drop inside bytes) ≡ old ++ drop (min inside n) (take n bytes)
+    by_case (inr less) =
+        let most : max (length old) (at + n) ≡ length old = omega arith in
+        let len : length (take n bytes) ≡ n = length-take-le n bytes some in
+        let none : drop (min inside n) (take n bytes) ≡ [] = drop_of_length-le (take n bytes) (omega (arith, len)) in
+        ap (λ k. take k (old ++ drop inside bytes)) most ∙ take-append_seam old (drop inside bytes) ∙ sym (append-nil old) ∙ ap (λ e. old ++ e) (sym none)
+    by_case (inl more) =
+        let most : max (length old) (at + n) ≡ length old + (n - inside) = omega arith in
+        let least : min inside n ≡ inside = omega arith in
+        let whole : inside + (n - inside) ≡ n = omega arith in
+        ap (λ k. take k (old ++ drop inside bytes)) most ∙ take-append-add old (drop inside bytes) (n - inside)
+        ∙ ap (λ b. old ++ b) (sym (drop-take inside (n - inside) bytes)) ∙ ap (λ k. old ++ drop inside (take k bytes)) whole
+        ∙ ap (λ k. old ++ drop k (take n bytes)) (sym least)
+
+-- a write of which only the first n bytes were written
+pub cut_short : (old : List ℕ) (at n : ℕ) (bytes grown kept new : List ℕ) (inside : ℕ) → at ≤ length old → n ≤ length bytes → inside ≡ min (length bytes) (length old - at)
+    → grown ≡ old ++ drop inside bytes → kept ≡ take (max (length old) (at + n)) grown → Holds kept at (take (min inside n) bytes) new → Holds old at (take n bytes) new
+cut_short old at n bytes grown kept new inside fits some is grows keeps holds =
+    let len : length (take n bytes) ≡ n = length-take-le n bytes some in
+    let front : take (min inside n) bytes ≡ take (min inside n) (take n bytes) =
+    ap (λ b. take (min inside n) b) (sym (take-append-drop n bytes)) ∙ take-append-le (min inside n) (take n bytes) (drop n bytes) (omega (arith, len)) in
+    let left : kept ≡ old ++ drop (min inside n) (take n bytes) =
+    keeps ∙ ap (λ g. take (max (length old) (at + n)) g) grows ∙ short_front old at n bytes inside fits some is in
+    over_end old at (take n bytes) new (min inside n) fits (omega (arith, len))
+    (subst (λ f. Holds (old ++ drop (min inside n) (take n bytes)) at f new) front (subst (λ k. Holds k at (take (min inside n) bytes) new) left holds))

@@ -3,32 +3,31 @@ ghost use Rattle.std.specs.Prelude.{◌≡◌, ◌+◌, ◌≤◌, ◌<◌, leng
 ghost use Rattle.amo_journal.specs.Device.{Holds};
 ghost use Rattle.amo_journal.specs.declared.device.DeviceError.TheVariants.{Failed};
 
+use crate::disk_file::DiskFile;
 use amo_journal::{Device, DeviceError};
 use std::alloc::Global;
 use std::fs::File;
 use std::io;
 use std::io::Read;
-use std::os::unix::fs::FileExt;
 
 /// `FileDevice`: a file of the system, open to read and write, that nobody else writes. It keeps in
-/// memory what was read of the file as it was opened, and written since. A read returns that.
-///
-/// Nothing here states what a crash leaves of a file. So we assume of each file what a journal
-/// promises of crashes.
+/// memory the bytes that were read as it was opened, and those that were written since. A read
+/// returns them. The contents that a crash may leave are those of its [`DiskFile`]. We assume its
+/// clauses of files of the system, so the device over such a file states nothing of crashes.
 #[derive(Drop)]
-pub struct FileDevice {
-    file: File,
+pub struct FileDevice<F = File> {
+    file: F,
     bytes: Vec<u8>,
     faults: u64,
 }
 
-impl FileDevice {
+impl<F: Read + Drop> FileDevice<F> {
     /// Returns the device over a file, all of which it reads.
     ///
     /// # Errors
     ///
     /// The system's error, or one of the kind `OutOfMemory`.
-    pub fn open(alloc: Global, mut file: File) -> io::Result<FileDevice> {
+    pub fn open(alloc: Global, mut file: F) -> io::Result<FileDevice<F>> {
         let mut bytes = Vec::new(alloc);
         file.read_to_end(&mut bytes)?;
         Ok(FileDevice {
@@ -37,10 +36,13 @@ impl FileDevice {
             faults: 0,
         })
     }
+}
 
+impl<F> FileDevice<F> {
     /// Counts a fault of the disk, and returns its error. After 2^64 - 1 faults it returns the
     /// error for want of memory.
     fn failed(&mut self) -> DeviceError
+        ensures file { self.new.file ≡ self.old.file }
         ensures bytes { self.new.bytes ≡ self.old.bytes }
         ensures later { self.old.faults ≤ self.new.faults }
         ensures cause { result ≡ Failed → self.old.faults < self.new.faults }
@@ -64,22 +66,22 @@ fn write_within(bytes: &mut Vec<u8>, at: usize, new: &[u8])
     bytes[at..end].copy_from_slice(new);
 }
 
-impl Device for FileDevice {
+impl<F: DiskFile> Device for FileDevice<F> {
     ghost seen = { λ d. d.bytes.items };
 
-    ghost may_leave = { λ d c. ⊥ };
+    ghost may_leave = { λ d. F.may_leave d.file };
 
-    ghost stale = { λ d i. ⊥ };
+    ghost stale = { λ d. F.stale d.file };
 
-    ghost moment = { λ d. 0 };
+    ghost moment = { λ d. F.moment d.file };
 
-    ghost left_since = { λ d t c. ⊥ };
+    ghost left_since = { λ d. F.left_since d.file };
 
     ghost faults = { λ d. d.faults };
 
-    ghost counts_now = { λ d t c le now. now };
+    ghost counts_now = { λ d. F.counts_now d.file };
 
-    ghost only_now = { λ d c left. left };
+    ghost only_now = { λ d. F.only_now d.file };
 
     fn read(&mut self, alloc: Global) -> Result<Vec<u8>, DeviceError> {
         Ok(self.bytes.to_vec(alloc)?)
@@ -89,16 +91,23 @@ impl Device for FileDevice {
         let before = self.bytes.len();
         let inside = bytes.len().min(before - at);
         self.bytes.extend_from_slice(&bytes[inside..])?;
-        if self.file.write_all_at(bytes, at as u64).is_err() {
-            self.bytes.truncate(before);
+        let count = match self.file.write_front(at, bytes, &self.bytes[..before]) {
+            Ok(count) => count,
+            Err(_) => {
+                self.bytes.truncate(before);
+                return Err(self.failed());
+            }
+        };
+        self.bytes.truncate(before.max(at + count));
+        write_within(&mut self.bytes, at, &bytes[..inside.min(count)]);
+        if count < bytes.len() {
             return Err(self.failed());
         }
-        write_within(&mut self.bytes, at, &bytes[..inside]);
         Ok(())
     }
 
     fn cut(&mut self, len: usize) -> Result<(), DeviceError> {
-        if self.file.set_len(len as u64).is_err() {
+        if self.file.cut_to(len).is_err() {
             return Err(self.failed());
         }
         self.bytes.truncate(len);
@@ -106,7 +115,7 @@ impl Device for FileDevice {
     }
 
     fn sync(&mut self) -> Result<(), DeviceError> {
-        if self.file.sync_data().is_err() {
+        if self.file.sync_bytes(&self.bytes).is_err() {
             return Err(self.failed());
         }
         Ok(())

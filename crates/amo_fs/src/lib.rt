@@ -2,11 +2,13 @@
 //! what is synced.
 //!
 //! Start at [`replace_file`] and [`FileDevice`]. [`mount_of_id`] finds the mount of an open handle.
-//! No contract can state the content of a file, or what a crash leaves of it. So each call on files
-//! is a few lines, does one thing, and is tested by failing each system call.
+//! No contract can state the content of a file of the system. The trait [`DiskFile`] states which
+//! contents a crash may leave, and we assume it of files of the system. So each call on files is a
+//! few lines, does one thing, and is tested by failing each system call.
 #![tactic(auto)]
 
 mod device;
+mod disk_file;
 mod files;
 mod handle;
 mod local;
@@ -16,6 +18,7 @@ mod option;
 mod parts;
 
 pub use device::FileDevice;
+pub use disk_file::DiskFile;
 pub use files::{
     create_private, is_mine, make_file, make_folder, make_if_missing, names_in, open_private,
     read_file, replace_file, sync_folder,
