@@ -64,7 +64,7 @@ _amo_value() {
         'amo_jobs --notify' | 'amo_share --claim')
             echo 'program' ;;
         'amo_jobs --lines' | 'amo_worker --lines')
-            echo 'failed,doubt,untouched,running,open' ;;
+            echo 'done,failed,doubt,untouched,running,open' ;;
     esac
 }
 

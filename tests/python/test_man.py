@@ -154,7 +154,7 @@ class Completing:
         self.assertEqual(set(), self.offers("amo_jobs", "crew", "--workers", ""))
 
     def test_the_kinds_of_lines_are_offered(self) -> None:
-        kinds = {"failed", "doubt", "untouched", "running", "open"}
+        kinds = {"done", "failed", "doubt", "untouched", "running", "open"}
         self.assertEqual(kinds, self.offers("amo_jobs", "status", "--lines", ""))
         self.assertEqual(kinds, self.offers("amo_worker", "status", "--lines", ""))
 

@@ -1,5 +1,5 @@
 -- Which answers of persons are taken, and which intents are answered not done by who tries again.
-use Rattle.std.specs.Prelude.{◌≡◌, ◌≤◌, ℕ, ◌+◌, Bool, true, false, ◌&&◌, ◌==◌, not, nat_lt, List, [], ◌∷◌, ◌++◌, Option, Some, None, if◌then◌else◌}
+use Rattle.std.specs.Prelude.{◌≡◌, ◌≤◌, ℕ, ◌+◌, ◌-◌, ◌^◌, min, Bool, true, false, ◌&&◌, ◌==◌, not, nat_lt, List, [], ◌∷◌, ◌++◌, Option, Some, None, if◌then◌else◌}
 use Rattle.std.specs.List.{list_any}
 use Rattle.amo_run_log.specs.declared.entry.Outcome.{Outcome}
 use Rattle.amo_run_log.specs.declared.entry.Outcome.TheVariants.{Done as Ended, Doubt as Unknown, Unbegun, Untouched as Idle}
@@ -124,6 +124,16 @@ abbrev pub is_untimed : Refusal → Bool
 is_untimed EndUnknown = true
 is_untimed (EndAhead ended now) = true
 is_untimed why = false
+
+-- the last second since 1970 that 64 bits can hold
+abbrev pub LAST_SECOND : ℕ
+LAST_SECOND = 2 ^ 64 - 1
+
+-- from when on an answer is taken that is refused for this reason alone, in seconds since 1970, or
+-- 0 if its attempt didn't end too short a time ago
+abbrev pub taken_from : Refusal → ℕ
+taken_from (TooYoung ended now seconds) = min (ended + seconds) LAST_SECOND
+taken_from why = 0
 
 -- the findings, once this answer is noted among them
 abbrev pub with_answer : List Finding → Resolution → ℕ → ℕ → ℕ → List Finding

@@ -1,9 +1,9 @@
 //! Answers that come too early.
-ghost use Rattle.std.specs.Prelude.{◌≡◌, not};
-ghost use Rattle.std.specs.List.{list_any};
-ghost use Rattle.amo_status.specs.Answers.{is_untimed};
+ghost use Rattle.std.specs.Prelude.{◌≡◌, max, not};
+ghost use Rattle.std.specs.List.{fold, list_any};
+ghost use Rattle.amo_status.specs.Answers.{is_untimed, taken_from};
 
-use crate::refusal::Refusal;
+use crate::refusal::{Moment, Refusal};
 use std::fmt;
 use std::fmt::{Display, Formatter};
 
@@ -20,6 +20,34 @@ impl EarlyAnswers {
         ensures { result ≡ not (list_any (λ a. is_untimed a.1) self.now.answers.items) }
     {
         !has_untimed(&self.answers)
+    }
+
+    /// Returns from when on none of these answers comes too early, in seconds since 1970, if
+    /// waiting is enough for each of them.
+    pub fn taken_from(&self) -> u64
+        ensures { result ≡ fold (λ last a. max last (taken_from a.1)) 0 self.now.answers.items }
+    {
+        last_of(&self.answers)
+    }
+}
+
+/// Returns the latest of the times from which on these answers are taken.
+fn last_of(answers: &[(usize, Refusal)]) -> u64
+    ensures { result ≡ fold (λ last a. max last (taken_from a.1)) 0 answers.now }
+{
+    answers.iter().fold(0, |last, a| last.max(taken_from(a.1)))
+}
+
+/// Returns from when on an answer is taken that is refused for this reason, in seconds since 1970,
+/// or 0 if its attempt didn't end too short a time ago.
+fn taken_from(why: Refusal) -> u64
+    ensures { result ≡ taken_from why }
+{
+    match why {
+        Refusal::TooYoung { ended, seconds, .. } => ended.saturating_add(seconds),
+        Refusal::NoIntent | Refusal::OtherLine | Refusal::NotClosing => 0,
+        Refusal::NotAsked | Refusal::Running | Refusal::EndUnknown | Refusal::EndAhead { .. } => 0,
+        Refusal::AnsweredOtherwise | Refusal::AnsweredSo => 0,
     }
 }
 
@@ -42,13 +70,18 @@ fn is_untimed(why: Refusal) -> bool
     }
 }
 
-/// Prints one message for each answer, on a line of its own.
+/// Prints one message for each answer, on a line of its own. If waiting is enough, a last line has
+/// the time until which to wait.
 impl Display for EarlyAnswers {
     fn fmt<W: fmt::Write>(&self, f: &mut Formatter<W>) -> fmt::Result {
         let mut before = "";
         for (number, why) in self.answers.iter() {
             write!(f, "{before}answer {number}: {why}")?;
             before = "\namo_worker: ";
+        }
+        if self.are_timed() {
+            let time = Moment(self.taken_from());
+            write!(f, "{before}none of these comes too early from {time} on")?;
         }
         Ok(())
     }

@@ -72,7 +72,7 @@ impl Display for Wait {
 
 /// A time in seconds since 1970, which is printed as a date.
 #[derive(Clone, Copy, Drop)]
-struct Moment(u64);
+pub(crate) struct Moment(pub u64);
 
 impl Display for Moment {
     fn fmt<W: fmt::Write>(&self, f: &mut Formatter<W>) -> fmt::Result {

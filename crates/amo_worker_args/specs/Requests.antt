@@ -9,7 +9,7 @@ use Rattle.amo_operator.specs.declared.model.Form.{Form}
 use Rattle.amo_operator.specs.declared.model.Form.TheVariants.{Text as AsText, Json, Lines}
 use Rattle.amo_run_faults.specs.Id.{is_id}
 use Rattle.amo_status.specs.declared.state.State.{State}
-use Rattle.amo_status.specs.declared.state.State.TheVariants.{Open, Failed, Doubt, Untouched, Running}
+use Rattle.amo_status.specs.declared.state.State.TheVariants.{Open, Done, Failed, Doubt, Untouched, Running}
 use Rattle.amo_worker_args.specs.Asked.{Asked, AskedDoor, AskedWork, AskedLines, AskedStatus, AskedDamaged, AskedFollow, AskedDoubts, AskedAnswer, AskedAnswerFrom, AskedAgain, Jobs, Misused, NoNumber, NoWord, NoProtocol, Said}
 use Rattle.amo_worker_args.specs.declared.args.TheConstants.{MAX_QUIET, PROTOCOL}
 use Rattle.amo_worker_args.specs.declared.by_lines.ByLines.{ByLines}
@@ -52,12 +52,13 @@ jobs_of rows =
 -- the state that a word of `--lines` names
 unfoldable pub kind_of : Text → Result State Misused
 kind_of word =
-    if bytes_eq word (codes "failed") then Ok Failed
+    if bytes_eq word (codes "done") then Ok Done
+    else (if bytes_eq word (codes "failed") then Ok Failed
     else (if bytes_eq word (codes "doubt") then Ok Doubt
     else (if bytes_eq word (codes "untouched") then Ok Untouched
     else (if bytes_eq word (codes "running") then Ok Running
     else (if bytes_eq word (codes "open") then Ok Open
-    else Err (NoWord (codes "--lines") (codes "failed, doubt, untouched, running or open"))))))
+    else Err (NoWord (codes "--lines") (codes "done, failed, doubt, untouched, running or open")))))))
 
 -- the lines that are printed, by the word of `--lines`
 abbrev pub form_by_word : Option Text → Result Form Misused

@@ -166,12 +166,13 @@ fn kind_of(word: &str) -> Result<State, Misuse>
     ensures { answer_in (λ kind. kind) result ≡ kind_of word.now }
 {
     match word {
+        "done" => Ok(State::Done),
         "failed" => Ok(State::Failed),
         "doubt" => Ok(State::Doubt),
         "untouched" => Ok(State::Untouched),
         "running" => Ok(State::Running),
         "open" => Ok(State::Open),
-        _ => Err(Misuse::Word("--lines", "failed, doubt, untouched, running or open")),
+        _ => Err(Misuse::Word("--lines", "done, failed, doubt, untouched, running or open")),
     }
 }
 

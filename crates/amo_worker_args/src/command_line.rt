@@ -171,7 +171,7 @@ static ARGUMENTS: [Argument; 26] = [
         commands: &["status"],
         kind: Kind::Value("KIND"),
         excludes: &["json"],
-        help: "print only failed, doubt, untouched, running or open lines, for `answer --from` (default: all)",
+        help: "print only done, failed, doubt, untouched, running or open lines, for `answer --from` (default: all)",
     },
     Argument {
         name: "damaged",
