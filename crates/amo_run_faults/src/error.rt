@@ -1,7 +1,9 @@
 //! The faults that end a command before its work is done.
-ghost use Rattle.std.specs.Prelude.{◌≡◌};
+ghost use Rattle.std.specs.Prelude.{◌≡◌, Ok, Err, IfOk, IfErr};
+ghost use Rattle.std.specs.IoError.{error_kind};
+ghost use Rattle.std.specs.declared.io.ErrorKind.TheVariants.{OutOfMemory};
 ghost use Rattle.amo_run_faults.specs.Statuses.{status_of};
-ghost use Rattle.amo_run_faults.specs.declared.error.Fault.TheVariants.{Memory};
+ghost use Rattle.amo_run_faults.specs.declared.error.Fault.TheVariants.{Memory, Read, Write};
 
 use crate::disk::Disk;
 use crate::layout::Item;
@@ -278,7 +280,11 @@ fn remedy_of(error: &io::Error) -> &'static str {
 /// # Errors
 ///
 /// `Memory` if the system had none for the call, else `Write`.
-pub fn written<T>(item: Item, given: io::Result<T>) -> Result<T, Fault> {
+pub fn written<T>(item: Item, given: io::Result<T>) -> Result<T, Fault>
+    ensures done { IfOk given (λ value. result ≡ Ok value) }
+    ensures memory { IfErr given (λ error. error_kind error ≡ OutOfMemory → result ≡ Err Memory) }
+    ensures fails { IfErr given (λ error. (error_kind error ≡ OutOfMemory → ⊥) → result ≡ Err (Write item error)) }
+{
     match given {
         Ok(value) => Ok(value),
         Err(error) if error.kind() == io::ErrorKind::OutOfMemory => Err(Fault::Memory),
@@ -291,7 +297,11 @@ pub fn written<T>(item: Item, given: io::Result<T>) -> Result<T, Fault> {
 /// # Errors
 ///
 /// `Memory` if the system had none for the call, else `Read`.
-pub fn had<T>(item: Item, given: io::Result<T>) -> Result<T, Fault> {
+pub fn had<T>(item: Item, given: io::Result<T>) -> Result<T, Fault>
+    ensures done { IfOk given (λ value. result ≡ Ok value) }
+    ensures memory { IfErr given (λ error. error_kind error ≡ OutOfMemory → result ≡ Err Memory) }
+    ensures fails { IfErr given (λ error. (error_kind error ≡ OutOfMemory → ⊥) → result ≡ Err (Read item error)) }
+{
     match given {
         Ok(value) => Ok(value),
         Err(error) if error.kind() == io::ErrorKind::OutOfMemory => Err(Fault::Memory),
