@@ -1,7 +1,6 @@
 /* The calls of the system that each line of a list costs and that Python has not, or that take long
    in Python: a command's start with its lock and its outputs, and the look at what is left. Begin
-   with `amo_start`. `library.py` has this file built. If a call fails, a function returns its error
-   number, negative.
+   with `amo_start`. `library.py` has this file built. If a call fails, a function returns -errno.
 
    A file of a lock serves one command after the other, like outputs that stay empty. Between two it
    has the number SPARE, and the handle that has just shown that the lock is free. */
@@ -21,6 +20,7 @@
 
 enum { NOT_GOT = -4096, FURTHER = 50, STACK = 1 << 16 }; /* no error has the number 4096 */
 enum { LOCK, FILES = 3, SPARE = 0 };                     /* no attempt has the number SPARE */
+enum { OUTPUT = O_WRONLY | O_CREAT | O_EXCL | O_APPEND | O_CLOEXEC };
 
 /* Returns this file if a path still leads to it. */
 static int same(const char *path, int file) {
@@ -93,7 +93,8 @@ static int is_fresh(int file) { /* it is empty, and has one name alone */
   return fstat(file, &found) == 0 && found.st_size == 0 && found.st_nlink == 1;
 }
 
-/* Has a file ready. One that an earlier command left serves this one, if nothing has its name. */
+/* Has a file ready. One that an earlier command left serves this one, if nothing has its name. An
+   output that is there already is another run's, or a person's, and is refused. */
 static int prepare(struct start *it, int kind, const char *name) {
   char former[PATH_MAX];
   int *file = &it->files[kind];
@@ -105,7 +106,7 @@ static int prepare(struct start *it, int kind, const char *name) {
   }
   if (*file < 0 && kind == LOCK)
     *file = amo_lock(name, 1);
-  else if (*file < 0 && (*file = open(name, O_WRONLY | O_CREAT | O_APPEND | O_CLOEXEC, 0600)) < 0)
+  else if (*file < 0 && (*file = open(name, OUTPUT, 0600)) < 0)
     *file = -errno;
   it->former[kind] = it->serial;
   return *file;

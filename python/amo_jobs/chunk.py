@@ -2,6 +2,7 @@
 
 from __future__ import annotations
 
+import fcntl
 import json
 import os
 import re
@@ -21,6 +22,7 @@ from amo_jobs.statuses import Status
 from amo_jobs.worker import HERE, Program
 
 SHORTEST, LONGEST, PATIENCE = 0.1, 4.0, 20.0  # seconds
+GET_GENERATION = 0x80087601  # FS_IOC_GETVERSION of ioctl
 # The mark of a chunk's list. It names no run, so no crew that is started by hand takes the list.
 NO_RUN = "whichever machine has this chunk,\nand amo_share alone works it"
 
@@ -85,6 +87,14 @@ def new_mark() -> str:
     return f"{name}.{os.urandom(16).hex()}"
 
 
+def generation_of(path: str) -> int:
+    """Returns the generation of a file; -1 if the file system shows none. No change of the file
+    changes it, and a later file that gets the same number has another one. Raises OSError."""
+    with open(path, "rb") as file, suppress(OSError):
+        return int.from_bytes(fcntl.ioctl(file, GET_GENERATION, bytes(8))[:4], "little")
+    return -1
+
+
 class Chunk:
     """A chunk, and its folder here."""
 
@@ -108,18 +118,17 @@ class Chunk:
         shutil.rmtree(half, ignore_errors=True)
         os.mkdir(half, 0o700)
         place(f"{half}/list.run-is", NO_RUN)
-        lines = b"\n".join(sharing.texts[self.first - 1:self.last])
-        place(f"{half}/list", os.fsdecode(lines))
-        workers = ["--workers", str(sharing.workers)]
-        self.program.call("door", half, *workers, "--into", f"{half}/list")
+        place(f"{half}/list", os.fsdecode(b"\n".join(sharing.texts[self.first - 1:self.last])))
+        self.program.call("door", half, "--workers", str(sharing.workers), "--into", f"{half}/list")
         self.put_mark(half, new_mark())
         os.rename(half, self.folder)
         sync_folder(sharing.run)
 
     def put_mark(self, folder: str, mark: str) -> None:
         """Writes the mark, and where it was made: on which machine, and in a folder in which file,
-        whose number no copy has."""
-        where = {"machine": self.sharing.machine, "file": os.stat(f"{folder}/list").st_ino}
+        whose number and generation no copy has."""
+        where = {"machine": self.sharing.machine, "file": os.stat(f"{folder}/list").st_ino,
+                 "generation": generation_of(f"{folder}/list")}
         chunk = [self.number, self.sharing.digest]
         place(f"{folder}/mark", json.dumps({"mark": mark, "chunk": chunk, **where}))
 
@@ -134,12 +143,13 @@ class Chunk:
     def check(self) -> None:
         """Refuses a folder that was made on another machine, or that is a copy: a chunk that is run
         in two places is performed twice."""
-        it, sharing = self.note(), self.sharing
+        it, sharing, path = self.note(), self.sharing, f"{self.folder}/list"
         self.id()
         if it.get("chunk") != [self.number, sharing.digest]:
             raise refused(f"folder `{self.folder}`: it has no mark of this chunk; leave it as it"
                           " is, and find out which list it belongs to")
-        if [it["machine"], it["file"]] != [sharing.machine, os.stat(f"{self.folder}/list").st_ino]:
+        known = {it.get("generation", -1), generation_of(path)} - {-1}
+        if len(known) > 1 or [it["machine"], it["file"]] != [sharing.machine, os.stat(path).st_ino]:
             if not sharing.moved:
                 raise refused(f"folder `{self.folder}`: it was made elsewhere, or is a copy or a"
                               " backup, which would run lines again; if it is the only one:"

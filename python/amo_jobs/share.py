@@ -82,8 +82,6 @@ OPTIONS: List[Tuple[str, Dict[str, Any]]] = [it[1:] for it in (
 )]
 
 
-# ---- the commands
-
 def status(sharing: Sharing, program: Program) -> int:
     """Prints how each chunk stands, and returns the exit status."""
     found = {int(Status.DONE)}
@@ -132,9 +130,8 @@ def list_of(sharing: Sharing) -> bytes:
     data = pathlib.Path(sharing.jobs).read_bytes()
     sharing.texts = data.split(b"\n")[:-1]
     if data and not data.endswith(b"\n"):
-        line = data.count(b"\n") + 1
-        raise End(Status.REFUSED, f"list `{sharing.jobs}`: line {line} has no line feed at its end;"
-                                  " add one when the line is complete")
+        raise refused(f"list `{sharing.jobs}`: line {len(sharing.texts) + 1} has no line feed at"
+                      " its end; add one when the line is complete")
     return data
 
 
@@ -181,8 +178,6 @@ def chunks(sharing: Sharing, program: Program, note: Dict[str, Any]) -> List[Chu
     return [Chunk(sharing, program, number) for number in range(1, count + 1)]
 
 
-# ---- the words of the command line
-
 def refuse_words(sharing: Sharing) -> None:
     """Refuses a name, a claim program, options of a crew, or a command that can't be used."""
     if not NAME.fullmatch(sharing.name):
@@ -219,12 +214,9 @@ def sharing_of(words: List[str]) -> Sharing:
     return sharing
 
 
-# ---- the program
-
 def main(words: List[str]) -> int:
     """Does what the words ask for, and returns the exit status."""
-    code, text = end_of(lambda: called(words),
-                        "how all chunks stand: amo_share status --run DIR")
+    code, text = end_of(lambda: called(words), "how all chunks stand: amo_share status --run DIR")
     tell(text or "")
     return code
 

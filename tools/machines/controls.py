@@ -28,10 +28,13 @@ MISTAKES = [
     ], directed.try_answer_lost, LOST),
     ("size_is_no_part_of_the_digest", ['b"%d\\n" % sharing.chunk + data', "data"],
      directed.try_other_size, TWICE),
-    ("copy_is_taken", ['if [it["machine"], it["file"]] != [', 'if False and [it["machine"], it["file"]] != ['],
+    ("copy_is_taken", ["if len(known) > 1 or [", "if False and ["], directed.try_copy, TWICE),
+    ("copy_with_the_same_number_is_taken", ["if len(known) > 1 or [", "if ["],
      directed.try_copy, TWICE),
-    ("new_mark_with_each_start", ["if not os.path.isdir(self.folder):", "if not self.note('owner'):\n            shutil.rmtree("
-                                  "self.folder, ignore_errors=True)"], directed.try_killed_everywhere, LOST),
+    ("new_mark_with_each_start", [
+        "if os.path.isdir(self.folder):",
+        "if self.note('owner') or shutil.rmtree(self.folder, ignore_errors=True):",
+    ], directed.try_killed_everywhere, LOST),
     ("last_line_is_dropped", ['if data and not data.endswith(b"\\n"):', "if False:"],
      directed.try_last_line, "it says"),
     ("old_run_is_shared", ['if os.path.exists(f"{run}/shared") and', "if False and"],

@@ -1,12 +1,17 @@
 """Random runs: machines are killed and stopped, in part and as a whole, folders are lost, and the
 store is hurt."""
 
+import os
+import shutil
 import signal
+import subprocess
+import tempfile
 import time
 
+from harness.bench import want
 from machines import directed
 from machines.scene import Scene
-from machines.stores import store_of
+from machines.stores import CLAIMS, store_of
 
 BLOWS = ["share", "crew", "command", "machine", "machine", "stop", "stop", "store"]
 
@@ -118,6 +123,34 @@ def try_postgres_claims(bench):
     return directed.try_claim_programs(bench, "postgres")
 
 
+# A table that gets the setting with which a claim is made.
+SEES = """CREATE TABLE seen (setting text);
+CREATE FUNCTION see() RETURNS trigger LANGUAGE plpgsql AS $$
+  BEGIN INSERT INTO seen VALUES (current_setting('synchronous_commit')); RETURN NULL; END $$;
+CREATE TRIGGER see AFTER INSERT ON amo_claims FOR EACH ROW EXECUTE FUNCTION see();
+"""
+
+
+def try_postgres_pooled(bench):
+    """a claim is committed to the disk also if each transaction has another session, as with a
+    pooler, and if the role has another setting"""
+    store, room = store_of(bench, "postgres"), tempfile.mkdtemp(dir=bench.room)
+    psql, named = shutil.which("psql"), {"PATH": f"{room}:{os.environ['PATH']}", **store.straight()}
+    os.symlink(f"{directed.HERE}/pooled.py", f"{room}/psql")
+    subprocess.run([psql, "-qX"], input=SEES.encode(), env=named, check=True)
+    settings = {"off": "on", "local": "on", "on": "on", "remote_apply": "remote_apply"}
+    for number, (given, wanted) in enumerate(settings.items(), 1):
+        subprocess.run([psql, "-qXc", f"ALTER ROLE amo SET synchronous_commit = {given}"],
+                       env=named, check=True)
+        words = [f"{CLAIMS}/postgres", "claim", "list", str(number), "mark", "0" * 64]
+        for _ in range(2):  # (the second time it is there already)
+            said = subprocess.run(words, env={**named, "AMO_PSQL": psql}, stdout=subprocess.PIPE)
+            want(said.stdout.decode() == f"mark {'0' * 64}\n", f"it says {said}")
+        seen = subprocess.run([psql, "-qXAtc", "DELETE FROM seen RETURNING setting"], env=named,
+                              stdout=subprocess.PIPE, check=True).stdout.decode().split()
+        want(seen == [wanted], f"the role has {given}, and the claim was made with {seen}")
+
+
 def try_postgres_storms(bench):
     """random runs over PostgreSQL, which is stopped and crashes, with answers lost, late and
     repeated"""
@@ -125,4 +158,4 @@ def try_postgres_storms(bench):
 
 
 PARTS = {"storm": [try_storm], "storms": [try_folder_storms], "etcd": [try_etcd_claims, try_etcd_storms],
-         "postgres": [try_postgres_claims, try_postgres_storms]}
+         "postgres": [try_postgres_claims, try_postgres_pooled, try_postgres_storms]}
