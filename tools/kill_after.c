@@ -1,8 +1,9 @@
-/* Kills a program right after one of its calls on files, or has one fail, and tells of those that it made: preloaded into a
+/* Kills a program right after one of its calls on files, or has one fail, and notes those that it made: preloaded into a
    program, it stands before the C library's write, pwrite, ftruncate, fsync and fdatasync.
 
    KILLED_AFTER   the call of this number, from 1, is made, and then the process is killed by SIGKILL
    FAILED         the call of this number isn't made, and answers EIO
+   REMOVED_AFTER  after the call of this number the file that REMOVED names is removed
    CALLS          a file to which each call that was made adds a line: its word, and the path of its file */
 #define _GNU_SOURCE
 #include <errno.h>
@@ -17,7 +18,7 @@
 #include <unistd.h>
 
 static atomic_long begun, calls;
-static long failed, last;
+static long failed, last, removing;
 static int told = -1;
 
 static long number_of(const char *name) {
@@ -29,6 +30,7 @@ __attribute__((constructor)) static void begin(void) {
   const char *path = getenv("CALLS");
   failed = number_of("FAILED");
   last = number_of("KILLED_AFTER");
+  removing = number_of("REMOVED_AFTER");
   if (path)
     told = open(path, O_WRONLY | O_CREAT | O_APPEND | O_CLOEXEC, 0600);
 }
@@ -54,8 +56,11 @@ static long made(const char *word, int file, long answer) {
     line[size++] = '\n';
     syscall(SYS_write, told, line, size);
   }
-  if (atomic_fetch_add(&calls, 1) + 1 == last)
+  long count = atomic_fetch_add(&calls, 1) + 1;
+  if (count == last)
     kill(getpid(), SIGKILL);
+  if (count == removing)
+    unlink(getenv("REMOVED"));
   errno = error;
   return answer;
 }

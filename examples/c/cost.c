@@ -1,4 +1,4 @@
-/* What whole runs cost by amo_next and by amo_batch, in calls and in the processor's time that they take.
+/* Measures what whole runs cost by amo_next and by amo_batch, in calls and in processor time.
 
      cost JOBS WORKERS [each]
 

@@ -12,9 +12,11 @@
    FILE.boot names the boot of the machine, and WORKERS and JOBS. It is on the disk before FILE has
    registers. FILE is refused if it belongs to an earlier boot, since stores may be lost. It is
    refused too if it is missing or empty and FILE.boot is there, since new registers would hand out
-   every job again. If FILE.boot is missing beside registers, they may be a copy, or a hard link,
-   which has locks of its own: that is refused. A symbolic link to FILE will do in its place. Remove
-   all these files once no process lives and no job is to come, and never before.
+   every job again. Until FILE has registers, FILE.boot has a third line, and no worker has begun.
+   If a process is killed meanwhile, the next one goes on. If FILE.boot is missing beside registers,
+   they may be a copy, or a hard link, which has locks of its own: that is refused. A symbolic link
+   to FILE will do in its place. Remove all these files once no process lives and no job is to come,
+   and never before.
 
      cc -std=gnu11 -O2 crew.c libamo_c.a liblibc_c.a -o crew */
 #define _GNU_SOURCE /* for fallocate */
@@ -35,7 +37,8 @@
 _Static_assert(ATOMIC_LLONG_LOCK_FREE == 2,
                "an access of 64 bits must be one of the machine, since processes share the words");
 
-enum { NOTE_ROOM = 80 }; /* more than a text that names a boot and two numbers */
+enum { NOTE_ROOM = 96 }; /* more than a text that names a boot and two numbers, and MAKING */
+#define MAKING "making\n"  /* the last line of FILE.boot until FILE has registers */
 
 static void fail(const char *what) {
   perror(what);
@@ -86,14 +89,28 @@ static void sync_and_close(int file, const char *path) {
     fail(path);
 }
 
-/* Makes FILE.boot, and has it on the disk when it returns. If the file exists, registers were made,
-   and are gone. */
+/* Returns 1 if a file has this text. */
+static int has_text(const char *path, const char *text) {
+  char found[NOTE_ROOM];
+  int file = open(path, O_RDONLY | O_CLOEXEC);
+  ssize_t length = file < 0 ? -1 : read(file, found, NOTE_ROOM);
+  if (file >= 0)
+    close(file);
+  return length == (ssize_t)strlen(text) && memcmp(found, text, strlen(text)) == 0;
+}
+
+/* Makes FILE.boot with the line MAKING, and has it on the disk when it returns. After a kill it has
+   that line already, and no worker has begun. If it has another text, registers were made, and are
+   gone. */
 static void make_note(const char *path, const char *text) {
   char named[PATH_MAX];
   int note = open(path, O_WRONLY | O_CREAT | O_EXCL | O_CLOEXEC, 0600);
-  if (note < 0 && errno == EEXIST)
-    refuse(path, "it shows that registers were made, and they are gone; perform no job of them "
-                 "again, and use another path for other jobs");
+  if (note < 0 && errno == EEXIST) {
+    if (!has_text(path, text))
+      refuse(path, "it shows that registers were made, and they are gone; perform no job of them "
+                   "again, and use another path for other jobs");
+    note = open(path, O_WRONLY | O_CLOEXEC);
+  }
   if (note < 0 || write(note, text, strlen(text)) != (ssize_t)strlen(text))
     fail(path);
   sync_and_close(note, path);
@@ -123,20 +140,35 @@ static void take_room(int words, const char *file, off_t size) {
     fail(file);
 }
 
-/* Makes the registers of an empty file, which are all 0, or checks those of another one. */
+/* Makes the registers, which are all 0, and then takes the line MAKING from FILE.boot. If FILE was
+   removed meanwhile, another process may have made it anew. */
+static void finish(int words, const char *file, off_t size, const char *path, const char *note) {
+  struct stat named, opened;
+  if (ftruncate(words, size) != 0)
+    fail(file);
+  int whole = open(path, O_WRONLY | O_CLOEXEC);
+  if (whole < 0 || ftruncate(whole, (off_t)strlen(note)) != 0 || close(whole) != 0)
+    fail(path);
+  if (stat(file, &named) != 0 || fstat(words, &opened) != 0 || named.st_ino != opened.st_ino)
+    refuse(file, "it was removed while it was made; never do that, and use another path");
+}
+
+/* Makes the registers of an empty file, or checks those of another one. Goes on with those of a
+   process that was killed while it made them. */
 static void make_or_check(int words, const char *file, const amo_givens_t *givens, off_t size) {
-  char path[PATH_MAX], note[NOTE_ROOM];
+  char path[PATH_MAX], note[NOTE_ROOM], making[NOTE_ROOM];
   struct stat found;
   name_beside(path, file, "boot");
   describe(note, givens);
+  stpcpy(stpcpy(making, note), MAKING);
   if (fstat(words, &found) != 0)
     fail(file);
   if (found.st_size == 0) {
     take_room(words, file, size);
-    make_note(path, note);
-    if (ftruncate(words, size) != 0)
-      fail(file);
+    make_note(path, making);
   }
+  if ((found.st_size == 0 || found.st_size == size) && has_text(path, making))
+    finish(words, file, size, path, note);
   check_note(path, note);
   if (found.st_size != 0 && found.st_size != size)
     refuse(file, "it doesn't have the length of its registers; perform no job of them again, and "

@@ -4,23 +4,9 @@ from __future__ import annotations
 
 import os
 import sys
+from functools import partial
 
 from amo.version import PROGRAMS
-
-
-def amo() -> None:
-    """Becomes the program amo."""
-    _become("amo")
-
-
-def amo_show() -> None:
-    """Becomes the program amo_show."""
-    _become("amo_show")
-
-
-def amo_worker() -> None:
-    """Becomes the program amo_worker."""
-    _become("amo_worker")
 
 
 def amo_jobs() -> int:
@@ -39,6 +25,9 @@ def amo_share() -> int:
 
 def _become(name: str) -> None:
     os.execv(f"{PROGRAMS}/{name}", [name, *sys.argv[1:]])
+
+
+amo, amo_show, amo_worker = (partial(_become, it) for it in ("amo", "amo_show", "amo_worker"))
 
 
 def _find_modules() -> None:

@@ -9,16 +9,15 @@ import mmap
 import os
 import struct
 import threading
-import time
+from contextlib import suppress
 from functools import partial
 from multiprocessing.shared_memory import SharedMemory
-from typing import Any, Callable, Dict, NoReturn, Protocol, Union
+from typing import Any, Callable, Dict, NoReturn, Optional, Protocol, Union
 
 from amo._processes import is_forked, is_starting, is_variable
 from amo.library import Library, calls, whole
 
 __all__ = ["File", "Shared", "Memory", "Registers", "Guard", "Taken", "size"]
-_PAUSE = 0.01  # seconds between two tries of a lock
 _KEEP_LENGTH = 1  # FALLOC_FL_KEEP_SIZE
 
 
@@ -263,12 +262,19 @@ class File(_Words):
             os.close(file)
 
     def _make_or_check(self, file: int, length: int, note: str) -> None:
-        """Makes the registers of an empty file, or checks those of another one."""
+        """Makes the registers of an empty file, or checks those of another one. While the note has
+        the last line `making`, no worker has begun: so the next process goes on after a kill."""
+        boot, making = f"{self._path}.boot", f"{note}making\n"
         if os.fstat(file).st_size == 0:
             _take_room(self._path, file, length)  # since a store without room ends the process
-            _make_note(f"{self._path}.boot", note)
+            _make_note(boot, making)
+        if os.fstat(file).st_size in (0, length) and _text_of(boot) == making:
             os.truncate(file, length)
-        _check_note(f"{self._path}.boot", note)
+            os.truncate(boot, len(note))
+            if not os.path.samestat(os.stat(self._path), os.fstat(file)):
+                raise ValueError(f"`{self._path}`: it was removed while it was made; never do that,"
+                                 " and use another path")
+        _check_note(boot, note)
         if os.fstat(file).st_size != length:
             raise ValueError(f"`{self._path}`: it has {os.fstat(file).st_size} bytes, and its"
                              f" registers have {length}; perform no job of them again, and use"
@@ -288,29 +294,34 @@ def _note_of(workers: int, jobs: int) -> str:
 
 
 def _make_note(path: str, note: str) -> None:
-    """Makes the file that shows that registers were made, and has it on the disk when this returns.
-    Raises ValueError if it exists: then registers were made, and are gone."""
-    try:
-        with open(path, "x", encoding="ascii") as file:
-            file.write(note)
-    except FileExistsError:
+    """Makes the file that shows that registers are made, and has it on the disk when this returns.
+    Raises ValueError if it has another text: then registers were made, and are gone."""
+    found = _text_of(path)
+    if found not in (None, note):
         raise ValueError(f"`{path}`: it shows that registers were made, and they are gone; perform"
-                         " no job of them again, and use another path for other jobs") from None
+                         " no job of them again, and use another path for other jobs")
+    with open(path, "x" if found is None else "r+", encoding="ascii") as file:
+        file.write(note)
     for name in (path, os.path.dirname(os.path.abspath(path))):  # a folder has its files' names
         synced = os.open(name, os.O_RDONLY)
         os.fsync(synced)
         os.close(synced)
 
 
+def _text_of(path: str) -> Optional[str]:
+    """Returns the text of a note; None if the file is missing."""
+    with suppress(FileNotFoundError), open(path, encoding="ascii", errors="replace") as file:
+        return file.read()
+    return None
+
+
 def _check_note(path: str, note: str) -> None:
     """Raises ValueError if the file is missing, or has another boot or other numbers."""
-    try:
-        with open(path, encoding="ascii", errors="replace") as file:
-            found = file.read()
-    except FileNotFoundError:
+    found = _text_of(path)
+    if found is None:
         raise ValueError(f"`{path}`: it is missing, so the registers may be a copy, or have another"
                          " name; give the path by which they were made, or another path for other"
-                         " jobs") from None
+                         " jobs")
     first, numbers = note.splitlines(keepends=True)
     if not found.startswith(first):
         raise ValueError(f"`{path}`: the registers are of an earlier boot of the machine, so stores"
@@ -372,23 +383,3 @@ def _guard_by(path: str, flags: int, number: int, lock: Callable[[int], object])
                     f" `{path}`; give another number, or wait until that has ended, and each child"
                     " that it has forked") from None
     return Guard(lambda: os.close(file), file)
-
-
-def guarded(registers: Registers, number: int, wait: bool) -> Guard:
-    """Returns the guard of a worker's number. With `wait`, waits until the number is free.
-    Registers without a method `guard` have nothing to hold."""
-    guard = getattr(registers, "guard", None)
-    if guard is None:
-        return Guard(lambda: None)
-    while True:
-        try:
-            found: Guard = guard(number)
-            return found
-        except Taken:
-            if is_starting():  # the process above may wait for this one
-                raise Taken(f"worker {number}: another process has this number, and this one begins"
-                            " with it while multiprocessing imports its main module; put what the"
-                            " program does below `if __name__ == \"__main__\":`") from None
-            if not wait:
-                raise
-            time.sleep(_PAUSE)

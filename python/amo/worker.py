@@ -4,12 +4,15 @@ from __future__ import annotations
 
 import os
 import threading
+import time
 from typing import Iterator, List, NamedTuple, NoReturn, Optional
 
+from amo._processes import is_starting
 from amo.library import BEGINNING, NOTHING, STORE, Heard, Item, Library, Next, whole
-from amo.registers import Registers, check_registers, guarded
+from amo.registers import Guard, Registers, Taken, check_registers
 
 __all__ = ["Worker", "Standing", "standing", "bound"]
+_PAUSE = 0.01  # seconds between two tries of a lock
 
 
 class _Life:
@@ -117,7 +120,7 @@ class Worker:
         self._is_unsure = False  # the last loop may have left a job in the hand
         self._doubts: List[int] = []
         self._life: Optional[_Life] = None  # the only one that makes accesses
-        self._guard = guarded(registers, self.number, wait)
+        self._guard = _guarded(registers, self.number, wait)
         try:
             self._begin()
         except BaseException:
@@ -301,3 +304,23 @@ def bound(workers: int, jobs: int, beta: Optional[int] = None) -> int:
     8
     """
     return Library(jobs, workers, beta).bound()
+
+
+def _guarded(registers: Registers, number: int, wait: bool) -> Guard:
+    """Returns the guard of a worker's number. With `wait`, waits until the number is free.
+    Registers without a method `guard` have nothing to hold."""
+    guard = getattr(registers, "guard", None)
+    if guard is None:
+        return Guard(lambda: None)
+    while True:
+        try:
+            found: Guard = guard(number)
+            return found
+        except Taken:
+            if is_starting():  # the process above may wait for this one
+                raise Taken(f"worker {number}: another process has this number, and this one begins"
+                            " with it while multiprocessing imports its main module; put what the"
+                            " program does below `if __name__ == \"__main__\":`") from None
+            if not wait:
+                raise
+            time.sleep(_PAUSE)

@@ -27,6 +27,7 @@ ALL = [1, 2, 3]  # one worker alone performs all 3 jobs
 REAL = "/proc/sys/kernel/random/boot_id"
 EARLIER = "00000000-0000-0000-0000-000000000000\n"
 NUMBERS = "1 3\n"  # 1 worker and 3 jobs, in the second line of FILE.boot
+MAKING = "making\n"  # its third line until FILE has registers
 LONGEST = 120  # seconds that a process may take
 
 
@@ -170,7 +171,7 @@ def relinked(room: Room) -> None:
     """If a link leads elsewhere while it is resolved, registers and locks are those of one file."""
     one, two, link = (f"{room.file}.{it}" for it in ("one", "two", "link"))
     room.performs(room.crew, ALL, one)
-    room.run(room.crew, two, LD_PRELOAD=room.killer, KILLED_AFTER="4")  # the registers are made
+    room.run(room.crew, two, LD_PRELOAD=room.killer, KILLED_AFTER="5")  # the registers are made
     os.symlink("words.one", link)
     found = room.run(room.crew, link, LD_PRELOAD=room.relink, RELINKED=link, TARGET="words.two")
     want(found[:2] == (0, ALL) and os.path.exists(f"{two}.1"),
@@ -179,7 +180,7 @@ def relinked(room: Room) -> None:
 
 def without_room(room: Room) -> None:
     """The registers have room on the disk once they are made, before the first store."""
-    room.run(room.crew, LD_PRELOAD=room.killer, KILLED_AFTER="4")
+    room.run(room.crew, LD_PRELOAD=room.killer, KILLED_AFTER="5")
     found = os.stat(room.file)
     want(0 < found.st_size <= 512 * found.st_blocks, f"{found.st_blocks} blocks have room")
 
@@ -191,27 +192,50 @@ def noted_first(room: Room) -> None:
     with open(calls, encoding="utf-8") as file:
         found = file.read().splitlines()
     expected = [f"write {room.boot}", f"sync {room.boot}", f"sync {room.folder}",
-                f"cut {room.file}"]
+                f"cut {room.file}", f"cut {room.boot}"]
     want(found == expected, f"the calls are {found}, and must be {expected}")
 
 
 def stopped_between(room: Room) -> None:
-    """After a kill at each of these calls, or its failure, the next process refuses the registers,
-    or performs what the first one hasn't."""
-    for number in (1, 2, 3, 4, 5):
+    """After a kill at each of these calls, or its failure, the next process goes on, and performs
+    what the first one hasn't. If FILE.boot could not be written, it refuses the registers."""
+    for number in (1, 2, 3, 4, 5, 6):
         for how in ("KILLED_AFTER", "FAILED"):
             file = f"{room.file}.{how}.{number}"
             first = room.run(room.crew, file, LD_PRELOAD=room.killer, **{how: str(number)})
-            if number == 5:  # there is no such call
+            if number == 6:  # there is no such call
                 want(first[:2] == (0, ALL), f"without a stop: {first}")
                 room.performs(room.crew, [], file)
                 continue
             want(first[0] == (-9 if how == "KILLED_AFTER" else 1) and not first[1],
                  f"{how} {number}: {first}")
-            if (how, number) == ("KILLED_AFTER", 4):
-                room.performs(room.crew, ALL, file)
-            else:
+            if (how, number) == ("FAILED", 1):
                 room.refuses(room.crew, "they are gone", file)
+            else:
+                room.performs((room.crew, room.other)[number % 2], ALL, file)
+
+
+def unfinished(room: Room) -> None:
+    """Registers that a process has begun to make are gone on with for this boot and these numbers
+    alone, and not if their file was cut."""
+    with open(REAL, encoding="ascii") as real:
+        boot = real.read()
+    cases = [(f"{EARLIER}{NUMBERS}{MAKING}", 0, "they are gone"), ("", 0, "they are gone"),
+             (f"{boot}1 4\n{MAKING}", 0, "they are gone"), (f"{boot}{NUMBERS}", 0, "they are gone"),
+             (f"{boot}{NUMBERS}{MAKING}", 8, "its second line isn't")]
+    for text, size, why in cases:
+        with open(room.boot, "w", encoding="ascii") as note, open(room.file, "wb") as file:
+            note.write(text)
+            file.truncate(size)
+        for program in (room.crew, room.other):
+            room.refuses(program, why)
+
+
+def removed_meanwhile(room: Room) -> None:
+    """If FILE is removed while a process makes the registers, that process refuses them."""
+    found = room.run(room.crew, LD_PRELOAD=room.killer, REMOVED_AFTER="4", REMOVED=room.file)
+    want(found[0] == 1 and not found[1] and "it was removed while it was made" in found[2],
+         f"{found}; it must refuse the registers")
 
 
 def made_by_two(room: Room) -> None:
@@ -258,8 +282,9 @@ def await_wait(program: subprocess.Popen[str]) -> bool:
 
 CHECKS: Dict[str, Callable[[Room], None]] = {
     it.__name__: it for it in (gone, gone_for_another, earlier_boot, without_note, other_numbers,
-                               noted_first, stopped_between, made_by_two, one_number,
-                               closed_stream, unprinted_doubt, relinked, without_room)}
+                               noted_first, stopped_between, unfinished, removed_meanwhile,
+                               made_by_two, one_number, closed_stream, unprinted_doubt, relinked,
+                               without_room)}
 
 
 def mistake_of(check: Callable[[Room], None], room: Room) -> Optional[Wrong]:

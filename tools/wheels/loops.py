@@ -24,6 +24,7 @@ import types
 import unittest
 from multiprocessing.shared_memory import SharedMemory
 from typing import Any, Callable, List, Optional, Tuple
+from unittest import mock
 
 sys.dont_write_bytecode = True
 
@@ -579,6 +580,43 @@ class Numbers(unittest.TestCase):
             with open(f"{self.path}.boot", "w", encoding="ascii") as file:
                 file.write(text)
             self.refuses(self.path, (1, 3), "earlier boot")
+
+    def test_registers_whose_maker_was_killed(self) -> None:
+        amo.File(self.path, 1, 3)
+        with open(f"{self.path}.boot", encoding="ascii") as note:
+            whole = note.read()
+        making = f"{whole}making\n"
+        for length in (0, amo.size(1, 3)):
+            self.leave(making, length)
+            amo.File(self.path, 1, 3)
+            with open(f"{self.path}.boot", encoding="ascii") as note:
+                self.assertEqual(note.read(), whole)
+            self.assertEqual(os.path.getsize(self.path), amo.size(1, 3))
+        earlier = "00000000-0000-0000-0000-000000000000\n1 3\nmaking\n"
+        for text in (whole, "", earlier, making.replace("\n1 3\n", "\n1 4\n")):
+            self.leave(text, 0)
+            self.refuses(self.path, (1, 3), "they are gone")
+        self.leave(making, 8)
+        self.refuses(self.path, (1, 3), "its second line isn't")
+
+    def leave(self, text: str, length: int) -> None:
+        """Leaves the note with a text, and the registers with a length and without a store."""
+        with open(f"{self.path}.boot", "w", encoding="ascii") as note:
+            note.write(text)
+        os.truncate(self.path, 0)
+        os.truncate(self.path, length)
+
+    def test_registers_that_are_removed_while_they_are_made(self) -> None:
+        real = os.truncate
+
+        def cut(file: Any, length: int) -> None:
+            real(file, length)
+            if file == f"{self.path}.boot":  # another process has made the file anew by now
+                os.unlink(self.path)
+                open(self.path, "xb").close()
+
+        with mock.patch("os.truncate", cut):
+            self.refuses(self.path, (1, 3), "it was removed while it was made")
 
     def test_registers_without_their_note(self) -> None:
         self.assertEqual(list(alone(amo.File(self.path, 1, 3))), [1, 2, 3])

@@ -6,11 +6,13 @@ use crate::registers::{self, Lock, Registers};
 use std::ffi::OsString;
 use std::fs::{self, File, OpenOptions};
 use std::io::{self, Write};
-use std::os::unix::fs::OpenOptionsExt;
+use std::os::unix::fs::{MetadataExt, OpenOptionsExt};
 use std::path::{Path, PathBuf};
 
 /// The file with the id of this boot.
 const BOOT: &str = "/proc/sys/kernel/random/boot_id";
+/// The last line of the note until the file has registers.
+const MAKING: &str = "making\n";
 
 /// Registers in a file that processes map into their memory.
 ///
@@ -22,8 +24,9 @@ const BOOT: &str = "/proc/sys/kernel/random/boot_id";
 ///
 /// Once the machine was started anew, the file may lack stores, so it is refused. It is refused too
 /// if it is missing or empty and `PATH.boot` is there. Registers without `PATH.boot`, such as a
-/// copy or a hard link, are refused. A file in /dev/shm or /tmp is lost with `PATH.boot`, so new
-/// registers are made there, and every job is handed out again.
+/// copy or a hard link, are refused. If a process is killed while it makes the file, the next one
+/// goes on: no worker has begun before the file is made. A file in /dev/shm or /tmp is lost with
+/// `PATH.boot`, so new registers are made there, and every job is handed out again.
 ///
 /// # Examples
 ///
@@ -96,12 +99,21 @@ fn beside(path: &Path, ending: &str) -> PathBuf {
     found.into()
 }
 
-/// Makes the registers of an empty file, or checks those of another one.
+/// Makes the registers of an empty file, or checks those of another one. Goes on with those of a
+/// process that was killed while it made them: no worker has begun before the note is whole.
 fn make_or_check(file: &File, path: &Path, note: &Note, length: u64) -> io::Result<()> {
     if file.metadata()?.len() == 0 {
         amo_sys::take_room(file, length)?; // since a store without room ends the process
         note.make()?;
+    }
+    if [0, length].contains(&file.metadata()?.len()) && note.is_making() {
         file.set_len(length)?;
+        note.finish()?;
+        let (named, opened) = (fs::metadata(path)?, file.metadata()?);
+        if (named.dev(), named.ino()) != (opened.dev(), opened.ino()) {
+            let why = "it was removed while it was made; never do that, and use another path";
+            return Err(refusal(path, why));
+        }
     }
     note.check()?;
     let found = file.metadata()?.len();
@@ -137,25 +149,50 @@ impl Note {
         })
     }
 
-    /// Makes the file, and has it on the disk when this returns. If it exists, registers were made,
-    /// and are gone.
+    /// Makes the file, and has it on the disk when this returns. After a kill it is there, with the
+    /// same last line. If it has another text, registers were made, and are gone.
     fn make(&self) -> io::Result<()> {
         let made = OpenOptions::new()
             .write(true)
             .create_new(true)
             .open(&self.path);
-        let mut file = made.map_err(|error| match error.kind() {
-            io::ErrorKind::AlreadyExists => self.refusal(
-                "it shows that registers were made, and they are gone; perform no job of them \
-                 again, and use another path for other jobs",
-            ),
-            _ => error,
-        })?;
-        file.write_all(&[&self.boot[..], self.numbers.as_bytes()].concat())?;
+        let mut file = match made {
+            Err(error) if error.kind() == io::ErrorKind::AlreadyExists => {
+                if !self.is_making() {
+                    return Err(self.refusal(
+                        "it shows that registers were made, and they are gone; perform no job of \
+                         them again, and use another path for other jobs",
+                    ));
+                }
+                self.opened()?
+            }
+            made => made?,
+        };
+        file.write_all(&self.making())?;
         file.sync_all()?;
         // since otherwise a crash of the machine can lose the name of the file
         let folder = self.path.parent().filter(|it| !it.as_os_str().is_empty());
         File::open(folder.unwrap_or_else(|| Path::new(".")))?.sync_all()
+    }
+
+    /// Returns the text of the file until the registers are made.
+    fn making(&self) -> Vec<u8> {
+        [&self.boot[..], self.numbers.as_bytes(), MAKING.as_bytes()].concat()
+    }
+
+    /// Returns true if registers for this note are being made, or a process was killed at that.
+    fn is_making(&self) -> bool {
+        matches!(fs::read(&self.path), Ok(found) if found == self.making())
+    }
+
+    /// Takes the last line from the file, since the registers are made.
+    fn finish(&self) -> io::Result<()> {
+        let length = self.boot.len() + self.numbers.len();
+        self.opened()?.set_len(length as u64)
+    }
+
+    fn opened(&self) -> io::Result<File> {
+        OpenOptions::new().write(true).open(&self.path)
     }
 
     /// Refuses registers whose note is missing, or is that of another boot or of other numbers.

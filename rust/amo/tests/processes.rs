@@ -2,7 +2,7 @@
 
 use amo::{Crew, Fault, Lock, MappedFile, Registers, Step};
 use std::cell::Cell;
-use std::fs::{self, OpenOptions};
+use std::fs::{self, File, OpenOptions};
 use std::io::{self, Write};
 use std::os::unix::fs::{symlink, MetadataExt};
 use std::os::unix::process::ExitStatusExt;
@@ -266,6 +266,39 @@ fn registers_that_are_gone_and_begin_anew() {
     fs::remove_file(folder.join("words.boot")).expect("the note");
     assert_eq!(all_performed(&path), [1, 2, 3]);
     fs::remove_dir_all(&folder).expect("the folder");
+}
+
+#[test]
+fn registers_whose_maker_was_killed() {
+    let folder = folder_of("making");
+    let (path, note) = (folder.join("words"), folder.join("words.boot"));
+    MappedFile::open(&path, 1, 3).expect("a file");
+    let length = fs::metadata(&path).expect("the file").len();
+    let whole = fs::read_to_string(&note).expect("the note");
+    for size in [0, length] {
+        fs::write(&note, format!("{whole}making\n")).expect("room");
+        cut(&path, size);
+        MappedFile::open(&path, 1, 3).expect("registers that nobody has used");
+        assert_eq!(fs::read_to_string(&note).expect("the note"), whole);
+        assert_eq!(fs::metadata(&path).expect("the file").len(), length);
+    }
+    let earlier = "00000000-0000-0000-0000-000000000000\n1 3\nmaking\n".to_owned();
+    let other = whole.replace("\n1 3\n", "\n1 4\nmaking\n");
+    for text in [whole.clone(), String::new(), earlier, other] {
+        fs::write(&note, text).expect("room");
+        cut(&path, 0);
+        refuses(&path, (1, 3), "they are gone");
+    }
+    fs::write(&note, format!("{whole}making\n")).expect("room");
+    cut(&path, 8);
+    refuses(&path, (1, 3), "its second line isn't");
+    fs::remove_dir_all(&folder).expect("the folder");
+}
+
+/// Empties a file, and gives it a length.
+fn cut(path: &Path, length: u64) {
+    let file = File::create(path).expect("the file");
+    file.set_len(length).expect("a length");
 }
 
 /// Returns the jobs that one worker performs over the registers in this file.
