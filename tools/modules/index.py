@@ -30,7 +30,8 @@ is a public function that has a contract and does nothing: the contract is what 
 *mutant* is a wrong body that the prover rejects ([how](../dev/wrong-bodies.md)). A crate without a
 link has no public item with a contract, and none that gives a meaning to the contracts of a trait.
 [The overview](../assurance/overview.md) says what all of it comes to, and
-[testing](../assurance/testing.md) what no contract states.
+[testing](../assurance/testing.md) what no contract states. [Each file](files.md) is listed with its
+subject.
 
 ## The crates
 """
