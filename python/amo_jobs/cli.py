@@ -79,6 +79,8 @@ def work(settings: Settings, program: Program) -> int:
     program.more += ["--id", run]
     if settings.results != settings.run:  # since the door alone makes the run's folder
         os.makedirs(settings.results, 0o700, exist_ok=True)
+        settings.results += f"/{run}"  # other runs may have the same --results
+        os.makedirs(settings.results, 0o700, exist_ok=True)
     if settings.what == "work":
         note_command(settings, own)
         return crew.work(settings, program)
@@ -109,8 +111,6 @@ CALLS: Dict[str, Callable[[Settings, Program], int]] = {
     **{name: late("status", name) for name in ("status", "doubts", "answer", "again")},
 }
 
-
-# ---- the words of the command line
 
 def within(kind: Callable[[str], Union[int, float]], low: float,
            high: float) -> Callable[[str], Union[int, float]]:
@@ -179,8 +179,8 @@ OPTIONS: List[Tuple[Collection[str], str, Dict[str, Any]]] = [
            within(float, 0, 1e8)),
     option(RUNS, "--halt N", "stop after N failures in a row; after 10 at most if no line was done"
            " before; 0 is never (default: those 10 alone)", within(int, 0, 10**9)),
-    option(RUNS, "--results DIR",
-           "the folder for the files out.P.S and err.P.S (default: the run's folder)"),
+    option(RUNS, "--results DIR", "keep the files out.P.S and err.P.S in DIR/ID, where ID is the id"
+           " of the run (default: the run's folder)"),
     option(RUNS, "--command-changed",
            "go on in a folder that was used with another command (default: refused)"),
     option(RUNS, "--new-run OLD-ID",
@@ -195,7 +195,7 @@ OPTIONS: List[Tuple[Collection[str], str, Dict[str, Any]]] = [
     option(["forget"], "--force", "also if lines are open, running or in doubt (default: refused)"),
     option(["status"], "--json", "print one JSON object (default: a text)"),
     option(["doubts"], "--json", "print a JSON list (default: a text)"),
-    option(["status"], "--lines KIND", "print the lines of this kind alone: failed, doubt,"
+    option(["status"], "--lines KIND", "print the lines of this kind alone: done, failed, doubt,"
            " untouched, running or open (default: counts, and each line with an attempt)"),
     option(["status"], "--damaged", "print what can be read of a run that is refused; no line"
            " counts as open (default: refuse it)"),
@@ -335,8 +335,6 @@ def settings_of(words: List[str]) -> Settings:
     settings.find()
     return settings
 
-
-# ---- the program
 
 def main(words: List[str]) -> int:
     """Does what the words ask for, prints the last message, and returns the exit status."""

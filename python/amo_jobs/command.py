@@ -99,8 +99,7 @@ class Command:
         except OSError:
             self.release_outputs(False)
             return Rest.UNSEEN
-        is_seen = not self.locks and all(self.path in files_of(it.number, True)
-                                         for it in left)
+        is_seen = not self.locks and all(self.path in files_of(it.number, True) for it in left)
         return Rest.SEEN if is_seen else Rest.UNSEEN
 
     def release_outputs(self, is_over: bool) -> None:

@@ -19,6 +19,7 @@ REMEDIES = {
     errno.ELOOP: "check the path", errno.ENAMETOOLONG: "choose a shorter path",
     errno.EACCES: "change its mode, or run this as a user who may",
     errno.EPERM: "change its owner, or run this as a user who may",
+    errno.EEXIST: "move it away, since this run has not made it, then start again",
     errno.EROFS: "choose a place where files can be made", errno.EIO: "check the disk",
     errno.ENOSPC: "make room, then start again", errno.EDQUOT: "make room, then start again",
     errno.EMFILE: "allow more open files (ulimit -n), then start again",

@@ -10,7 +10,7 @@ import stat
 import sys
 import time
 from contextlib import suppress
-from typing import Optional
+from typing import List, Optional
 
 from amo_jobs.files import bytes_of, content, place, sync_folder
 from amo_jobs.locks import locked_soon, PATIENCE
@@ -168,6 +168,13 @@ def note_command(settings: Settings, version: str) -> None:
         place(f"{settings.run}/command",
               json.dumps({"command": settings.command, "results": settings.results,
                           "options": settings.options, "version": version}))
+
+
+def folders_of_outputs(run: str) -> List[str]:
+    """Returns the folders that have what the commands of this run have printed, and nothing of
+    another run: its own, and its part of --results."""
+    results: str = (content(f"{run}/command", True) or {}).get("results", run)
+    return [run, results] if os.path.basename(results) == id_of(run) else [run]
 
 
 def has_lock(file: int) -> bool:

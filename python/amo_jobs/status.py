@@ -12,11 +12,10 @@ import time
 from contextlib import suppress
 from typing import Any, Collection, Dict, Iterator, List
 
-from amo_jobs.files import content
 from amo_jobs.mark import id_of
 from amo_jobs.messages import confirm, Screen, visible
 from amo_jobs.processes import holders
-from amo_jobs.run_folder import name_run
+from amo_jobs.run_folder import FORGOTTEN, folders_of_outputs, name_run
 from amo_jobs.settings import Settings, next_command
 from amo_jobs.statuses import KINDS, Status
 from amo_jobs.worker import Program
@@ -32,8 +31,6 @@ NOTES = (f"# Put done in place of {BLANK} if it happened, not-done if it surely 
          " | xargs -rn1 ps -o pid=,args= -p")
 NO_PROCESS = "its runner is at work, or a process of another user"
 
-
-# ---- the commands
 
 def status(settings: Settings, program: Program) -> int:
     """Prints how all lines stand, and returns the exit status."""
@@ -58,9 +55,7 @@ def status(settings: Settings, program: Program) -> int:
 def doubts(settings: Settings, program: Program) -> int:
     """Prints each doubt that is final, with all that is known of it; returns the exit status."""
     name_run(settings, program)
-    used = content(f"{settings.run}/command", True) or {}
-    folders = {settings.run, used.get("results", settings.run)}
-    found = program.told("doubts", settings.run)
+    found, folders = program.told("doubts", settings.run), folders_of_outputs(settings.run)
     if settings.json:
         print(json.dumps(found))
         return Status.DONE
@@ -89,6 +84,9 @@ def answer(settings: Settings, program: Program) -> int:
         program.call("answer", settings.run, *quiet, "--from", settings.source or file.name)
     name, line, text, verdict = settings.words or ["", "", "", ""]
     ends = "is open again" if verdict == "not-done" else "is done, and never run again"
+    if verdict == "not-done" and os.path.lexists(f"{settings.run}/{FORGOTTEN}"):
+        ends = ("is open, and no crew takes it, since its run is put away; to run it, put it on a"
+                " new list")
     confirm(f"recorded: line {line} {ends}: {visible(text)}" if name else "recorded")
     return Status.DONE
 
@@ -102,8 +100,6 @@ def again(settings: Settings, program: Program) -> int:
     confirm(f"untouched lines that are open again: {count}")
     return Status.DONE
 
-
-# ---- the counts of all lines
 
 def status_of(found: Dict[str, Any], if_open: int) -> int:
     """Returns the exit status by the counts of all lines; `if_open` if lines are open, and none is
@@ -141,8 +137,6 @@ def pace_of(run: str, workers: List[int]) -> float:
     return pace
 
 
-# ---- lines with an attempt, and their processes
-
 def listed(run: str, found: Dict[str, Any], states: Collection[str]) -> Iterator[str]:
     """Yields a text for each line in one of these states, with the processes that hold it."""
     rows = [it for it in found["intents"] if it["state"] in states]
@@ -152,8 +146,6 @@ def listed(run: str, found: Dict[str, Any], states: Collection[str]) -> Iterator
                 if it["intent"] in held else "")
         yield f"{it['state']} {it['intent']}, line {it['line']}: {visible(it['text'])}{more}"
 
-
-# ---- doubts
 
 def how_old(doubt: Dict[str, Any]) -> str:
     """Returns when an attempt was recorded as over, and how long ago. It ended then or earlier."""

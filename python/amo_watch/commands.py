@@ -1,4 +1,4 @@
-"""What the command line has of this package: its commands, their options and their help."""
+"""The part of the command line that this package has: commands, with options and help."""
 
 from __future__ import annotations
 

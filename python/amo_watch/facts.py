@@ -13,6 +13,7 @@ from typing import Any, Dict, Iterable, List, NamedTuple, Optional
 
 from amo_jobs.files import content
 from amo_jobs.messages import visible
+from amo_jobs.run_folder import folders_of_outputs
 from amo_jobs.settings import Settings
 from amo_jobs.status import ANSWERS
 from amo_jobs.worker import HERE, TEST_BOOT_ID, Program
@@ -36,6 +37,7 @@ class Run(NamedTuple):
     worker: str  # the path of amo_worker
     version: str
     given: Optional[Dict[str, Any]]
+    folders: List[str]  # those that have what the run's commands have printed
 
     def command(self, what: str, *words: str) -> str:
         """Returns a command for bash that does this with the run, from any folder."""
@@ -44,11 +46,6 @@ class Run(NamedTuple):
         more = ["--file-system", it.file_system] if it.file_system else []
         more += ["--worker-program", self.worker] if it.worker_program else []
         return " ".join(map(quoted, [f"{HERE}/amo_jobs", what, *more, *named, *words]))
-
-    def folders(self) -> List[str]:
-        """Returns the folders that may hold what commands have printed."""
-        return list(dict.fromkeys([self.settings.run, (self.given or {}).get(
-            "results", self.settings.run)]))
 
 
 class Budget:
@@ -89,7 +86,8 @@ def size_of(text: str) -> int:
 def facts_of(settings: Settings, program: Program, version: str) -> Dict[str, Any]:
     """Returns all that a report says of a run."""
     found = snapshot_of(program, settings.run)
-    run = Run(settings, program.path, version, content(f"{settings.run}/command", True))
+    run = Run(settings, program.path, version, content(f"{settings.run}/command", True),
+              folders_of_outputs(settings.run))
     budget = Budget()
     lists = {name: found.of(state) for name, state in LISTS.items()}
     shown = {name: rows[:MOST_ROWS] for name, rows in lists.items()}
@@ -127,7 +125,7 @@ def row_of(run: Run, now: int, it: Attempt, texts: Dict[int, str], budget: Budge
     commands = commands_of(run, it, text) if is_whole else []
     shown = budget.take(text, *commands)
     age = None if it.ended is None or it.ended > now else now - it.ended
-    outputs = budget.outputs(outputs_of(run.folders(), it.name)) if is_whole else []
+    outputs = budget.outputs(outputs_of(run.folders, it.name)) if is_whole else []
     return {"attempt": it.name, "line": it.line, "text": shown, "cut": len(text) - len(shown),
             "begun": it.begun, "ended": it.ended, "age": age, "seconds": it.seconds,
             "code": it.code, "state": it.state, "answer": it.answer,

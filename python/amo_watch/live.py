@@ -16,15 +16,14 @@ from contextlib import suppress
 from typing import Any, Dict, List
 
 from amo_jobs import calls
-from amo_jobs.files import content
 from amo_jobs.messages import End
 from amo_jobs.processes import signer
-from amo_jobs.run_folder import name_run
+from amo_jobs.run_folder import folders_of_outputs, name_run
 from amo_jobs.settings import Settings
 from amo_jobs.statuses import Status
 from amo_jobs.worker import Program
 from amo_watch.snapshot import alive, began, Follower, Snapshot
-from amo_watch.texts import Lines, output_of
+from amo_watch.texts import Lines, outputs_of
 from amo_watch.view import Answer, Facts, picture, summary, View
 
 WAIT, SELDOM = 0.5, 30.0  # seconds, seconds between two lines
@@ -40,8 +39,7 @@ class Live:
         self.found, self.texts = Snapshot(), {}  # type: Snapshot, Dict[int, str]
         self.lines, self.alive = Lines(settings.run), []  # type: Lines, List[int]
         self.follower = Follower(program, settings.run)
-        used = content(f"{settings.run}/command", True) or {}
-        self.view, self.results = View(), used.get("results", settings.run)
+        self.view, self.folders = View(), folders_of_outputs(settings.run)
 
     def read(self, seconds: float, *others: Any) -> bool:
         """Waits for so many seconds for a line or a key; returns whether a line came. Raises an end
@@ -79,7 +77,7 @@ class Live:
         """Returns what is shown now."""
         outputs: Dict[str, str] = {}
         for it in self.found.of("pending")[:MOST_OUTPUTS]:
-            ends = [output_of(f"{self.results}/{kind}.{it.name}").end for kind in ("out", "err")]
+            ends = [output.end for output in outputs_of(self.folders, it.name)]
             outputs[it.name] = next((end[-1] for end in reversed(ends) if end), "")
         return Facts(self.found, self.texts, outputs, self.alive)
 

@@ -1,4 +1,4 @@
-"""What is new of a run, as events, notifications and numbers. The teller of a crew calls `News`."""
+"""The news of a run, as events, notifications and numbers. The teller of a crew calls `News`."""
 
 from __future__ import annotations
 

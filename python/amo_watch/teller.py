@@ -1,4 +1,4 @@
-"""What a crew tells others while it works: `--metrics`, `--events` and `--notify`.
+"""Reports of a crew to others while it works: `--metrics`, `--events` and `--notify`.
 
 A process of its own does it, the teller. It begins before its crew, which waits for no child that
 was there before. A pipe from the supervisor has the crew's messages, and at last its status. If the

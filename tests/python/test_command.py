@@ -352,6 +352,27 @@ class Spawned(Case):
         commands.remove()
         self.assertEqual(self.files(), [])
 
+    def test_an_output_of_another_run_is_neither_written_nor_removed(self):
+        # The first command has to make its outputs; the second one would reuse those of the first.
+        for texts in ((b"pay",), (b"quiet", b"pay")):
+            self.serial = 0
+            commands = self.commands("sh", "-c", "[ $AMO_JOB = quiet ] || echo $AMO_JOB")
+            for text in texts[:-1]:
+                found = self.start(commands, text)
+                self.end(found)
+                self.assertIs(found.rest(()), Rest.NOTHING)
+            for kind in OUTPUTS:
+                path = self.written(f"{kind}.3.{len(texts)}")
+                with open(path, "w", encoding="ascii") as file:
+                    file.write("another run's\n")
+            with self.assertRaisesRegex(NotStarted, f"{self.run}/out.3.{len(texts)}`: file exists;"
+                                                    " move it away, .* \\(no line was lost\\)"):
+                self.start(commands, texts[-1])
+            for kind in OUTPUTS:
+                self.assertEqual(self.text(f"{kind}.3.{len(texts)}"), "another run's\n")
+                os.unlink(f"{self.run}/{kind}.3.{len(texts)}")
+            self.assertEqual(self.files(), [])
+
     def test_an_output_that_was_moved_is_made_anew(self):
         commands = self.commands("true")
         found = self.start(commands)
@@ -432,7 +453,7 @@ class NotBegun(Case):
             os.mkdir(f"{self.run}/{kind}.3.1")
             with self.assertRaises(NotStarted) as raised:
                 self.start(self.commands("true"))
-            self.assertIn(f"`{self.run}/{kind}.3.1`: is a directory", str(raised.exception))
+            self.assertIn(f"`{self.run}/{kind}.3.1`: file exists", str(raised.exception))
             os.rmdir(f"{self.run}/{kind}.3.1")
             self.assertEqual(self.files(), [])
 

@@ -4,6 +4,7 @@ import fcntl
 import json
 import os
 import signal
+import stat
 import subprocess
 import sys
 import tempfile
@@ -102,7 +103,11 @@ class Crews(unittest.TestCase):
             code, _ = self.ended(self.words("--results", f"{self.room}/second"))
         self.assertEqual((code, self.text(f"{self.list}.run/command")), (75, note))
         self.assertEqual(self.ended(self.words("--results", f"{self.room}/second"))[0], 0)
-        self.assertIn("/second", self.text(f"{self.list}.run/command"))
+        # Another run may have the same --results, so each has a part of its own.
+        part = f"{self.room}/second/{ID}"
+        self.assertEqual(json.loads(self.text(f"{self.list}.run/command"))["results"], part)
+        self.assertEqual([stat.S_IMODE(os.stat(it).st_mode) for it in (f"{self.room}/second", part)],
+                         [0o700] * 2)
 
     def test_a_lock_of_the_list_that_another_has_is_not_waited_for(self):
         # As in: flock tonight.txt amo_jobs crew .. tonight.txt

@@ -1,4 +1,4 @@
-"""What a theorem rests on: tools/statement, on small sources that are made up."""
+"""Tests of tools/statement, which lists what a theorem rests on, over small sources."""
 
 import glob
 import os

@@ -3,7 +3,9 @@
 import contextlib
 import io
 import itertools
+import json
 import os
+import shlex
 import subprocess
 import tempfile
 import time
@@ -13,7 +15,7 @@ from unittest import mock
 
 from package import ROOT, until
 
-from amo_jobs import calls, processes, status
+from amo_jobs import calls, processes, run_folder, status
 from amo_jobs.settings import Settings
 from amo_jobs.statuses import KINDS, Status
 from amo_watch import texts
@@ -201,6 +203,57 @@ class Ages(unittest.TestCase):
                 self.assertEqual("".join(found), "".join(lines))
 
 
+class Outputs(unittest.TestCase):
+    """Which folders have the output of a run."""
+
+    RUN = "1" * 32
+
+    def folders(self, room, results):
+        for name in ("run", "others", f"results/{self.RUN}", f"results/{'2' * 32}"):
+            os.makedirs(f"{room}/{name}", exist_ok=True)
+        for name, text in (("id", f"{self.RUN}\n"), ("command", json.dumps(
+                {"command": ["pay"], **results}))):
+            with open(f"{room}/run/{name}", "w", encoding="ascii") as file:
+                file.write(text)
+        return run_folder.folders_of_outputs(f"{room}/run")
+
+    def test_a_folder_that_other_runs_may_use_has_no_output_of_this_one(self):
+        with tempfile.TemporaryDirectory() as room:
+            # The folder of --results before it had a part for each run; the run's own path before
+            # `forget`, where tomorrow's run stands; and the part of another run.
+            for it in ("results", "others", f"results/{'2' * 32}"):
+                found = self.folders(room, {"results": f"{room}/{it}"})
+                self.assertEqual(found, [f"{room}/run"], it)
+            self.assertEqual(self.folders(room, {}), [f"{room}/run"])
+
+    def test_the_part_of_this_run_has_its_output(self):
+        with tempfile.TemporaryDirectory() as room:
+            part = f"{room}/results/{self.RUN}"
+            self.assertEqual(self.folders(room, {"results": part}), [f"{room}/run", part])
+
+
+class Answers(unittest.TestCase):
+    """What is printed of an answer that was recorded."""
+
+    def said(self, run, verdict):
+        settings = Settings("answer", run=run, words=["1.1", "7", "rent", verdict])
+        program = types.SimpleNamespace(more=[], call=lambda *_: b"")
+        with contextlib.redirect_stdout(io.StringIO()) as said:
+            self.assertEqual(status.answer(settings, program), Status.DONE)
+        return said.getvalue()
+
+    def test_a_line_of_a_run_that_was_put_away_is_taken_by_no_crew(self):
+        done = "recorded: line 7 is done, and never run again: rent\n"
+        with tempfile.TemporaryDirectory() as run:
+            self.assertEqual(self.said(run, "done"), done)
+            self.assertEqual(self.said(run, "not-done"), "recorded: line 7 is open again: rent\n")
+            with open(f"{run}/forgotten", "w", encoding="ascii"):
+                self.assertEqual(self.said(run, "done"), done)
+                self.assertEqual(self.said(run, "not-done"), "recorded: line 7 is open, and no crew"
+                                 " takes it, since its run is put away; to run it, put it on a new"
+                                 " list: rent\n")
+
+
 class Pasted(unittest.TestCase):
     """What `doubts` prints of three attempts, and a worker that keeps the answers that it gets."""
 
@@ -260,7 +313,8 @@ class Pasted(unittest.TestCase):
         lines = self.printed().splitlines()
         self.assertEqual(lines[-3], "# Put done in place of ANSWER if it happened, not-done if it"
                                     " surely did not happen.")
-        self.assertEqual(lines[-4], f"  {ROOT}/amo_jobs answer --worker-program {self.room}/worker"
+        program, worker = map(shlex.quote, (f"{ROOT}/amo_jobs", f"{self.room}/worker"))
+        self.assertEqual(lines[-4], f"  {program} answer --worker-program {worker}"
                                     " tonight.txt -- 1.3 3 -rf ANSWER")
 
 

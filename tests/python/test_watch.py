@@ -1,4 +1,4 @@
-"""The live view, the numbers for a monitor, and what a crew tells others."""
+"""The live view, the numbers for a monitor, and the reports of a crew to others."""
 
 import json
 import os

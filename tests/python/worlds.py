@@ -1,4 +1,4 @@
-"""What the tests of the two sets of rules share: a world that can be copied, the search through all
+"""Shared by the tests of the two sets of rules: a world that can be copied, the search through all
 orders of events, and mistakes that are made in the rules."""
 
 import copy

@@ -45,8 +45,8 @@ OF_THE_RUNNER = [
     ("lock_only_as_standard_input", FURTHER, rules.try_left_behind, TWICE + "|did nothing"),
     ("lock_only_as_a_further_descriptor", INPUT, rules.try_closed, TWICE),
     ("runner_without_lock", [
-        "            lock = locked(path, True)\n            if lock is not None:",
-        '            lock = os.open("/dev/null", os.O_RDONLY)\n            if lock is not None:'],
+        "                lock = locked(path, True)\n",
+        '                lock = os.open("/dev/null", os.O_RDONLY)\n'],
      rules.try_two_crews, LISTED),
     ("late_line_is_carried_out", [
         'KILL_AGAIN = 0.5', 'LATE: List[Said] = []\nKILL_AGAIN = 0.5',
@@ -87,6 +87,10 @@ OF_FAULTS = [
         "            self.feed(StartFailed(str(why)))\n",
         "            self.attempts[action.serial] = command\n            self.feed(CommandEnded(0))\n"],
      limits.try_processes, "counts as done, and did nothing"),
+    ("outputs_of_runs_lie_together", ['        settings.results += f"/{run}"', "        pass"],
+     ways.try_outputs_of_runs, "file exists"),
+    ("outputs_of_another_run_are_shown", [" if os.path.basename(results) == id_of(run) else [run]", ""],
+     ways.try_outputs_of_runs, "paid anew"),
     ("report_is_dropped", [UNSENT.format("pass"), UNSENT.format('self.unsent = b""')],
      held.try_full_pipe, r"of \d+ ends \d+ are told"),
     ("full_pipe_holds_nobody", [

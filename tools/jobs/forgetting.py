@@ -78,9 +78,13 @@ def try_forget_doubts(bench):
     until(lambda: not list(scene.processes(WAITS)), "the command ends")
     told = forget(scene, REFUSED)
     want("open: 2, running or in doubt: 1" in told, told)
-    before = performed(scene)
+    before, run = performed(scene), f"{scene.run}.forgotten-{id_in(scene.run)}"
     forget(scene, DONE, "--force")
     crew(scene, READ)
+    scene.run = run
+    name, line, text = re.findall(r"^# (\d+\.\d+), line (\d+): (.*)$", scene.call("doubts"), re.M)[0]
+    told = scene.call("answer", "--now", "--", name, line, text, "not-done")
+    want("is open, and no crew takes it, since its run is put away;" in told, told)
     check(scene, before)
 
 

@@ -1,4 +1,4 @@
-"""What people see of a run: the report, the live view, the numbers for a monitor and `status --follow`
+"""Views of a run: the report, the live view, the numbers for a monitor and `status --follow`
 read without any lock, write nothing, and have the counts of `status`. What a crew reports to others
 has these counts too. The report marks each restart."""
 
@@ -467,8 +467,8 @@ def try_share(bench):
     with open(f"{room}/list", "w") as file:
         file.writelines(f"{k}\n" for k in range(1, 9))
     top = os.path.dirname(DOCS)
-    words = ["--name", "pay", "--claim", f"{top}/stores/folder", "--chunk", "3", "--run", f"{room}/share", "--workers", "2",
-             "--worker-program", bench.worker, "--metrics", f"{room}/numbers", f"{room}/list", "--", "sh", "-c",
+    words = ["--name", "pay", "--claim", shlex.quote(f"{top}/stores/folder"), "--chunk", "3", "--run", f"{room}/share",
+             "--workers", "2", "--worker-program", bench.worker, "--metrics", f"{room}/numbers", f"{room}/list", "--", "sh", "-c",
              'case $1 in 2|4|8) exit 7;; 5) kill -9 $$;; esac', "sh", "{}"]
     ran = subprocess.run([sys.executable, f"{top}/amo_share", *words], stdin=subprocess.DEVNULL, capture_output=True,
                          timeout=240, env={**os.environ, "AMO_CLAIMS": f"{room}/store"})

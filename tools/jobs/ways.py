@@ -164,7 +164,7 @@ def try_late_request(bench):
     said = ran.stderr.decode()
     want(ran.returncode == LATER, f"the answer ends with {ran.returncode}: {said}")
     want(re.search(r"^amo_worker: answer 1: its attempt ended at .* GMT, and it is .* GMT now; answer again 1000000 s after that end,"
-                   r" or add --now$", said, re.M), said)
+                   r" or add --now\namo_worker: none of these comes too early from .* GMT on$", said, re.M), said)
     want(status == DOUBTFUL, f"the crew ends with {status}")
     scene.call(*words, "done")
     want(end_of(scene) == DONE, "the line isn't done")
@@ -553,19 +553,44 @@ def try_work(bench):
     scene.audit()
 
 
+def cut_off(bench, script, results=None):
+    """Returns a run of one line, which is in doubt, and the folder of what its command printed."""
+    scene = bench.scene([], 1, ["--results", results] if results else [])
+    with open(scene.jobs, "w") as file:
+        file.write("pay\n")
+    scene.ends(scene.start(command=["sh", "-c", f"{script}; kill -9 $$", "sh"]), DOUBTFUL)
+    return scene, f"{results}/{folder.read(f'{scene.run}/id').decode().strip()}" if results else scene.run
+
+
 def try_outputs(bench):
     """the output of a command is kept, elsewhere if that is asked for, and shown with its doubt"""
-    for options in ([], ["--results", "results"]):
-        scene = bench.scene([], 1, [])
-        with open(scene.jobs, "w") as file:
-            file.write("pay\n")
-        options = [f"{scene.room}/{it}" if it == "results" else it for it in options]
-        scene.ends(scene.start(*options, command=["sh", "-c", "echo paid; echo slowly >&2; kill -9 $$", "sh"]), DOUBTFUL)
-        place = options[1] if options else scene.run
+    for results in (None, f"{bench.room}/results"):
+        scene, place = cut_off(bench, "echo paid; echo slowly >&2", results)
         found = folder.read(f"{place}/out.1.1"), folder.read(f"{place}/err.1.1")
         want(found == (b"paid\n", b"slowly\n"), f"{os.listdir(place)}")
         told = scene.call("doubts")
         want("| paid\n" in told and "| slowly\n" in told and "line 1: pay\n" in told, told)
+
+
+def try_outputs_of_runs(bench):
+    """two runs with one folder for results have no output in common, on the disk or in what is
+    shown; nor has a run that was put away with one that takes its place"""
+    results = f"{bench.room}/shared"
+    first, _ = cut_off(bench, "echo paid by the first", results)
+    second, place = cut_off(bench, "true", results)
+    for it in (second.call("doubts"), second.call("report", "--json")):
+        want("paid by the first" not in it and "out.1.1" not in it, it)
+    want("| paid by the first\n" in first.call("doubts"), first.call("doubts"))
+    want(os.listdir(place) == [], f"{os.listdir(place)}")
+    old, _ = cut_off(bench, "true")
+    os.rename(old.run, f"{old.run}.away")
+    os.unlink(f"{old.jobs}.run-is")
+    path, old.run = old.run, f"{old.run}.away"
+    new = bench.scene([], 1, [])
+    new.run, new.jobs = path, old.jobs
+    new.ends(new.start(command=["sh", "-c", "echo paid anew", "sh"]), DONE)
+    want(folder.read(f"{path}/out.1.1") == b"paid anew\n", f"{os.listdir(path)}")
+    want("no output was found" in old.call("doubts"), old.call("doubts"))
 
 
 def try_streams(bench):
@@ -684,6 +709,6 @@ def fill(scene, disk, is_begun):
 PARTS = {"ways": [
     try_ends, try_arguments, try_refusals, try_lists, try_answers, try_late_request, try_late_request_now, try_ages, try_status, try_look, try_pasted,
     try_pasted_text, try_messages, try_boot_id, try_timeout, try_last_net, try_leftovers,
-    try_first_signal, try_second_signal, try_halt, try_one_runner, try_work, try_outputs, try_streams, try_many_messages, try_growing, try_killed_in_turn,
+    try_first_signal, try_second_signal, try_halt, try_one_runner, try_work, try_outputs, try_outputs_of_runs, try_streams, try_many_messages, try_growing, try_killed_in_turn,
     try_disk_full,
 ]}

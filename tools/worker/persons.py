@@ -105,7 +105,8 @@ def answered(scene, name, line, text, verdict, status, taken, *more):
     said = f"{name} {line} {text} {verdict}{options}: status {ended}, {after - before} taken, {err}"
     want((ended, after - before) == (status, taken), said)
     named = status == LATER or "answer 1" in err
-    want(status == OVER or err.count("\n") == 1 and named,
+    has_time = re.search(f"{ON}\\Z", err) is not None
+    want(status == OVER or err.count("\n") == 1 + has_time and named,
          f"{name} {verdict} is refused without a word: {err}")
     return err
 
@@ -191,6 +192,7 @@ OUTCOME = re.compile(rb"\b(done (\d+) \d+|doubt (\d+)|untouched (\d+) \d+) \d+")
 DATE = r"\w{3}, \d\d \w{3} \d{4} \d\d:\d\d:\d\d GMT"
 EARLY = rf"its attempt ended at {DATE}, and it is {DATE} now; answer again \d+ s after that end, or add --now"
 AHEAD = rf"its attempt ended at {DATE}, which is ahead of the clock \({DATE}\); set the clock right, or add --now"
+ON = rf"amo_worker: none of these comes too early from {DATE} on\n"
 UNKNOWN = "no record says when its attempt ended; wait as long as the receiver may take, then add --now"
 
 
@@ -219,7 +221,8 @@ def try_not_done_waits(bench):
             (4, [], REFUSED, UNKNOWN), (4, ["--quiet", "0"], REFUSED, UNKNOWN), (1, short, OVER, None), (2, [], OVER, None),
             (3, ["--now"], OVER, None), (4, ["--now", *long], OVER, None)]:
         err = answered(scene, f"1.{serial}", serial, f"job {serial}", "not-done", status, int(status == OVER), *more)
-        want(said is None or re.fullmatch(f"amo_worker: answer 1: {said}\n", err), f"1.{serial} {more}: {err}")
+        wanted = f"amo_worker: answer 1: {said}\n{ON if status == LATER else ''}"
+        want(said is None or re.fullmatch(wanted, err), f"1.{serial} {more}: {err}")
     want(set(agree(scene).values()) == {"open"}, f"{agree(scene)}")
 
 
@@ -264,6 +267,7 @@ def try_sheet_waits(bench):
         count = len(records_in(scene.run, "answers")) - before
         want((ended, count) == (status, len(answers) if status == OVER else 0), f"{answers}: status {ended}, {count} taken, {err}")
         wanted = "".join(f"amo_worker: answer {place}: {said}\n" for place, said in early)
+        wanted += ON if status == LATER else ""
         want(re.fullmatch(wanted, err), f"{answers}: it says {err}, and not {wanted}")
 
     quiet = ["--quiet", str(10**6)]

@@ -671,7 +671,7 @@ def answer_once(it, rows):
             elif is_new and not (found := ledger.intent(*numbers(row[0].split(b"."), 2))).found:
                 sheet.take(place, found, row[3])
         if sheet.early:
-            raise End(LATER if sheet.are_timed else 65, "\namo_worker: ".join(sheet.early))
+            raise End(LATER if sheet.are_timed() else 65, "\namo_worker: ".join(sheet.said()))
         for name, verdict in verdicts.items() if not running else ():
             said = numbers(name.split(b"."), 2)
             if not ledger.intent(*said).found:
@@ -738,8 +738,8 @@ class Given:
                           f"{HELP}")
         self.jobs = self.words[-1] if self.command in ("door", "work") else None
         self.is_json, self.lines, self.source = "--json" in options, options.get("--lines"), options.get("--from")
-        if self.lines not in (None, *KINDS[1:]) or self.lines and self.is_json:
-            raise End(64, "`--lines`: it must be failed, doubt, untouched, running or open"
+        if self.lines not in (None, *KINDS) or self.lines and self.is_json:
+            raise End(64, "`--lines`: it must be done, failed, doubt, untouched, running or open"
                           f"{HELP}")
         if self.follows and (self.is_json or self.lines or self.is_damaged):
             raise End(64, f"`--follow`: it goes with no other option but --once{HELP}")

@@ -23,8 +23,8 @@ def age_of(ended: int):
 
 
 def wait_of(intent, verdict: bytes, seconds: int) -> Optional[tuple]:
-    """Why this answer comes too early, and whether it is known from when on it is taken; None if it
-    doesn't."""
+    """Returns why this answer comes too early, with the time from which on it is taken, or 0 if
+    nobody knows that; None if it doesn't come too early."""
     waits = [b"doubt", b"done", None]
     if MISTAKE == "failed_is_quiet":
         waits.remove(b"done")
@@ -34,13 +34,13 @@ def wait_of(intent, verdict: bytes, seconds: int) -> Optional[tuple]:
         return None
     ended, now = intent.ended(), int(time.time())
     if not ended:
-        return UNKNOWN, False
+        return UNKNOWN, 0
     if now < ended and MISTAKE != "ahead_is_old":
         return (f"its attempt ended at {dated(ended)}, which is ahead of the clock ({dated(now)});"
-                " set the clock right, or add --now"), False
+                " set the clock right, or add --now"), 0
     if abs(now - ended) < seconds:
         return (f"its attempt ended at {dated(ended)}, and it is {dated(now)} now; answer again"
-                f" {seconds} s after that end, or add --now"), True
+                f" {seconds} s after that end, or add --now"), ended + seconds
     return None
 
 
@@ -48,7 +48,7 @@ class Sheet:
     """The answers of one call that come too early. With no number of seconds, none does."""
 
     def __init__(self, seconds: Optional[int]):
-        self.seconds, self.early, self.are_timed = seconds, [], True
+        self.seconds, self.early, self.ends = seconds, [], []
 
     def take(self, place: int, intent, verdict: bytes) -> None:
         """Notes the answer of this number, if it comes too early."""
@@ -57,4 +57,13 @@ class Sheet:
         wait = wait_of(intent, verdict, self.seconds)
         if wait:
             self.early.append(f"answer {place}: {wait[0]}")
-            self.are_timed = self.are_timed and wait[1]
+            self.ends.append(wait[1])
+
+    def are_timed(self) -> bool:
+        """Returns true if waiting is enough."""
+        return all(self.ends)
+
+    def said(self) -> list[str]:
+        """Returns a message for each answer that comes too early, and how long to wait."""
+        last = f"none of these comes too early from {dated(max(self.ends))} on"
+        return [*self.early, *([last] if self.are_timed() else [])]

@@ -210,7 +210,7 @@ FAULTS = [
      "answer 1: the other answer was given before; an answer stays as it is"),
     (same, "answer 1.2 2 job_2 not-done --quiet 1000000000", LATER,
      "answer 1: its attempt ended at ..., and it is ... now; answer again 1000000000 s after that"
-     " end, or add --now"),
+     " end, or add --now\namo_worker: none of these comes too early from ... on"),
     (recording("journal.16", b"intent 1 4 1", b"doubt 1 4000000000"),
      "answer 16.1 4 job_4 not-done", REFUSED,
      "answer 1: its attempt ended at Tue, 02 Oct 2096 07:06:40 GMT, which is ahead of the clock"
@@ -226,7 +226,7 @@ FAULTS = [
     (same, "answer 1.2 2", WORDS,
      f"`answer`: it must be INTENT LINE TEXT done|not-done, or --from FILE{HELP}"),
     (same, "status --lines closed", WORDS,
-     f"`--lines`: it must be failed, doubt, untouched, running or open{HELP}"),
+     f"`--lines`: it must be done, failed, doubt, untouched, running or open{HELP}"),
     (same, "work 2", WORDS, f"`P`: it must be a whole number from 1 to 1{HELP}"),
     (same, "work 1 --beta 65536", WORDS,
      f"`--beta`: it must be a whole number from 1 to 65535{HELP}"),
@@ -272,7 +272,7 @@ def told_one(bench, change, words, status, said):
     ended, out, err = scene.call(command, scene.run, *more)
     for mark, path in (("RUN", scene.run), ("LIST", scene.jobs), ("BOOT", scene.boot)):
         said = said.replace(f"THE {mark}", path)
-    want(ended == status and is_message(err, said) and err.count("\n") == 1,
+    want(ended == status and is_message(err, said) and err.count("\n") == said.count("\n") + 1,
          f"{words}: status {ended}, {err}, and not {status}, {said}")
     want(not out or words == "work 1", f"{words} says {out}")
 
