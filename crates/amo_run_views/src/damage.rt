@@ -1,4 +1,8 @@
 //! Showing what can be read of a run that is refused.
+ghost use Rattle.std.specs.Prelude.{◌≡◌, ◌++◌, IfOk, OnOk, map, string_bytes};
+ghost use Rattle.std.specs.List.Sorted.{IsPermutation};
+ghost use Rattle.amo_run_views.specs.Named.{count_text, log_texts, named_by, named_by_append, named_from, named_in};
+
 use crate::readable::{DamagedRun, ReadableLog, look_for_damage};
 use amo_host_parts::print;
 use amo_run_faults::{Fault, Item, Setting};
@@ -36,24 +40,16 @@ fn damage_text(alloc: Global, run: &DamagedRun) -> Result<Vec<u8>, AllocError> {
     let mut text = Vec::new(alloc);
     push_wrong(alloc, &mut text, Item::Record, &run.wrong_record)?;
     push_wrong(alloc, &mut text, Item::Known, &run.wrong_jobs)?;
-    for (i, log) in run.logs.iter().enumerate() {
-        push_log(alloc, &mut text, item_of(i), log)?;
+    push_log(alloc, &mut text, Item::Answers, &run.answers)?;
+    for (k, log) in run.journals.iter().enumerate() {
+        push_log(alloc, &mut text, Item::Journal(k as u64 + 1), log)?;
     }
     let count = match &run.jobs {
         Some(jobs) => jobs.count(),
         None => 0,
     };
-    push_lines(alloc, &mut text, count, &named_in(alloc, &run.logs)?)?;
+    push_lines(alloc, &mut text, count, &named_in(alloc, &run.journals)?)?;
     Ok(text)
-}
-
-/// Returns the file of this index: the answers, then the journals.
-fn item_of(i: usize) -> Item {
-    if i == 0 {
-        Item::Answers
-    } else {
-        Item::Journal(i as u64)
-    }
 }
 
 /// Adds a line with the fault of a file, if it has one.
@@ -101,7 +97,9 @@ fn push_log(
 }
 
 /// Returns how many appends there are, in words.
-fn appends_text(alloc: Global, count: usize) -> Result<String, AllocError> {
+fn appends_text(alloc: Global, count: usize) -> Result<String, AllocError>
+    ensures { IfOk result (λ text. string_bytes text ≡ count_text count) }
+{
     match count {
         1 => format!(in alloc; "1 append"),
         _ => format!(in alloc; "{count} appends"),
@@ -120,35 +118,50 @@ fn short_text(alloc: Global, fault: &Fault) -> Result<String, AllocError> {
     }
 }
 
-/// Returns the intents that can be read, in the order of their lines.
-fn named_in(alloc: Global, logs: &[ReadableLog]) -> Result<Vec<Named>, AllocError> {
+/// Returns the intents that can be read of the journals, in the order of their lines.
+fn named_in(alloc: Global, journals: &[ReadableLog]) -> Result<Vec<Named>, AllocError>
+    ensures { IfOk result (λ named. IsPermutation (named_from 1 (map log_texts journals.now)) named.items) }
+{
     let mut named = Vec::new(alloc);
-    for (i, log) in logs.iter().enumerate() {
-        if i > 0 {
-            push_named(&mut named, i as u64, log)?;
-        }
+    for (k, log) in journals.iter().enumerate() {
+        push_named(&mut named, k as u64 + 1, log)?;
     }
     named.sort_unstable();
     Ok(named)
 }
 
 /// Adds the intents of a worker.
-fn push_named(named: &mut Vec<Named>, worker: u64, log: &ReadableLog) -> Result<(), AllocError> {
+fn push_named(named: &mut Vec<Named>, worker: u64, log: &ReadableLog) -> Result<(), AllocError>
+    ensures { OnOk result (named.new.items ≡ named.old.items ++ named_in worker (log_texts log.now)) }
+{
     for records in &log.records {
-        match Append::read(records) {
-            Some(Append::One(entry)) => push_intent(named, worker, entry)?,
-            Some(Append::Two(first, second)) => {
-                push_intent(named, worker, first)?;
-                push_intent(named, worker, second)?;
-            }
-            None => {}
-        }
+        push_append(named, worker, Append::read(records))?;
     }
     Ok(())
 }
 
+/// Adds the intents of a worker's append.
+fn push_append(
+    named: &mut Vec<Named>,
+    worker: u64,
+    append: Option<Append>,
+) -> Result<(), AllocError>
+    ensures { OnOk result (named.new.items ≡ named.old.items ++ named_by_append worker append) }
+{
+    match append {
+        Some(Append::One(entry)) => push_intent(named, worker, entry),
+        Some(Append::Two(first, second)) => {
+            push_intent(named, worker, first)?;
+            push_intent(named, worker, second)
+        }
+        None => Ok(()),
+    }
+}
+
 /// Adds the entry, if it is an intent.
-fn push_intent(named: &mut Vec<Named>, worker: u64, entry: Entry) -> Result<(), AllocError> {
+fn push_intent(named: &mut Vec<Named>, worker: u64, entry: Entry) -> Result<(), AllocError>
+    ensures { OnOk result (named.new.items ≡ named.old.items ++ named_by worker entry) }
+{
     match entry {
         Entry::Intent { serial, line, .. } if line > 0 => named.push((line, worker, serial))?,
         _ => {}

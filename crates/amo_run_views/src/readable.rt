@@ -1,5 +1,10 @@
 //! The view of a run that is refused: the readable part of each file, and its fault. It writes
 //! nothing, and takes nothing for granted but the run's id.
+ghost use Rattle.std.specs.Prelude.{◌≡◌, ◌≢◌, ◌⊎◌, ◌-◌, ◌≤◌, ◌==◌, [], Ok, Err, Some, None, true, false, count_by, length, slice_get, take};
+ghost use Rattle.amo_run_faults.specs.declared.error.Fault.{Fault as FaultView};
+ghost use Rattle.amo_run_faults.specs.declared.error.Fault.TheVariants.{Memory};
+ghost use Rattle.amo_run_views.specs.Wrong.{IsWell};
+
 use amo_givens::MAX_WORKERS;
 use amo_journal::{Checksum, read_log};
 use amo_run_dir::{
@@ -20,8 +25,10 @@ pub(crate) struct DamagedRun {
     pub jobs: Option<Jobs>,
     /// The fault of the lines' file, if it has one.
     pub wrong_jobs: Option<Fault>,
-    /// The answers, and then the journals of the workers 1, 2 and so on.
-    pub logs: Vec<ReadableLog>,
+    /// The operators' answers.
+    pub answers: ReadableLog,
+    /// The journals of the workers 1, 2 and so on.
+    pub journals: Vec<ReadableLog>,
 }
 
 /// The readable part of a journal.
@@ -35,9 +42,15 @@ pub(crate) struct ReadableLog {
 
 impl DamagedRun {
     /// Returns true if something is wrong with one of the files.
-    pub(crate) fn is_damaged(&self) -> bool {
-        let is_log = self.logs.iter().any(|log| log.wrong.is_some());
-        is_log || self.wrong_record.is_some() || self.wrong_jobs.is_some()
+    pub(crate) fn is_damaged(&self) -> bool
+        ensures well { result ≡ false → IsWell self.now }
+        ensures wrong { result ≡ true → IsWell self.now → ⊥ }
+    {
+        let is_journal = self.journals.iter().any(|log| log.wrong.is_some());
+        is_journal
+            || self.answers.wrong.is_some()
+            || self.wrong_record.is_some()
+            || self.wrong_jobs.is_some()
     }
 }
 
@@ -50,13 +63,14 @@ pub(crate) fn look_for_damage(rt: HostRuntime, setting: &Setting<'_>) -> Result<
     first_checksum(rt, setting, Item::Record)?;
     let (last, mut wrong_record) = parted(record_of(rt, setting))?;
     let last = last.flatten();
-    let mut logs = Vec::new(rt.alloc());
-    logs.push(readable_log(rt, setting, Item::Answers, last.as_ref())?)?;
+    let answers = readable_log(rt, setting, Item::Answers, last.as_ref())?;
+    let mut journals = Vec::new(rt.alloc());
     for worker in 1..=MAX_WORKERS as u64 {
         let item = Item::Journal(worker);
-        logs.push(readable_log(rt, setting, item, last.as_ref())?)?;
+        journals.push(readable_log(rt, setting, item, last.as_ref())?)?;
     }
-    let has_records = logs.iter().any(|log| !log.records.is_empty());
+    let has_records = !answers.records.is_empty()
+        || journals.iter().any(|log| !log.records.is_empty());
     if has_records && last.is_none() && wrong_record.is_none() {
         wrong_record = Some(Fault::Missing(Item::Record));
     }
@@ -66,7 +80,8 @@ pub(crate) fn look_for_damage(rt: HostRuntime, setting: &Setting<'_>) -> Result<
         wrong_record,
         jobs,
         wrong_jobs,
-        logs,
+        answers,
+        journals,
     })
 }
 
@@ -88,7 +103,11 @@ fn readable_jobs(
 /// # Errors
 ///
 /// `Memory` if that was the reason.
-fn parted<T: Drop>(given: Result<T, Fault>) -> Result<(Option<T>, Option<Fault>), Fault> {
+fn parted<T: Drop>(given: Result<T, Fault>) -> Result<(Option<T>, Option<Fault>), Fault>
+    ensures value { (value : T) → given ≡ Ok value → result ≡ Ok (Some value, None) }
+    ensures memory { given ≡ Err Memory → result ≡ Err Memory }
+    ensures fault { (fault : FaultView) → given ≡ Err fault → fault ≢ Memory → result ≡ Ok (None, Some fault) }
+{
     match given {
         Ok(value) => Ok((Some(value), None)),
         Err(Fault::Memory) => Err(Fault::Memory),
@@ -145,7 +164,12 @@ fn front_of(
 }
 
 /// Returns the first lines of a file, so many of them, each with its line feed.
-fn first_lines(bytes: &[u8], count: usize) -> &[u8] {
+fn first_lines(bytes: &[u8], count: usize) -> &[u8]
+    ensures front { result.now ≡ take (length result.now) bytes.now }
+    ensures most { count_by (λ b. b == 10) result.now ≤ count }
+    ensures whole { result.now ≢ bytes.now → count_by (λ b. b == 10) result.now ≡ count }
+    ensures lines { result.now ≢ bytes.now → (result.now ≡ []) ⊎ (slice_get bytes.now (length result.now - 1) ≡ Some 10) }
+{
     let mut left = count;
     for (i, byte) in bytes.iter().enumerate() {
         if left == 0 {
