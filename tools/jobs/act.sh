@@ -7,6 +7,7 @@
 # gated waits for ROOM/go.LINE. So no test has to be faster than a command.
 room=$1 what=${2#* } file=$1/effects/$AMO_LINE
 name=$(readlink "/proc/$$/fd/0") name=${name##*/command.}
+[ -n "$name" ] || kill -9 $$ # a kill of readlink is one of this command
 echo "begun $name $$" >> "$file"
 did='echo "did $name" >> "$file"
 if [ -n "$AMO_CALLS" ]; then printf "\nperformed %s %s ." "$name" "$AMO_LINE" >> "$AMO_CALLS"; fi'
