@@ -1,5 +1,5 @@
-"""Who takes a runner's reports and gives it orders: its supervisor, by pipes, or nobody but the
-rules of a crew of one, in the same process (`OwnDesk` in `crew`)."""
+"""The desk of a runner takes its reports and gives it orders. That is its supervisor, by pipes, or
+the rules of a crew of one, in the same process (`OwnDesk` in `crew`)."""
 
 from __future__ import annotations
 

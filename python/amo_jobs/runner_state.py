@@ -1,5 +1,5 @@
-"""What a runner knows, the events that it takes, and the actions by which it acts. `runner_rules`
-has the rules between them."""
+"""The state of a runner, the events that it takes, and the actions by which it acts.
+`runner_rules` has the rules between them."""
 
 from __future__ import annotations
 

@@ -8,7 +8,7 @@ import tempfile
 import unittest
 
 ROOT = os.path.dirname(os.path.dirname(os.path.dirname(os.path.realpath(__file__))))
-# Defines `await` of ./test, and calls it for a crate with the folder that holds what `rt ci` printed.
+# Defines `await` of ./test, and calls it for a crate. The folder has the output of `rt ci`.
 SCRIPT = 'eval "$(sed -n "/^await()/,/^}/p" "$1/test")"; cd "$2" && room=$2 && await amo_kk'
 PROVED = "== amo_kk\nrt: amo_kk proved\n"
 KEPT = "rt: amo_kk is kept: an earlier run on this machine proved the same files\n"
@@ -21,7 +21,8 @@ class Await(unittest.TestCase):
         with tempfile.TemporaryDirectory() as room:
             with open(f"{room}/proved", "w", encoding="utf-8") as file:
                 file.write(f"{printed}rt ci has ended\n")
-            return subprocess.run(["bash", "-c", SCRIPT, "await", ROOT, room], timeout=60).returncode
+            words = ["bash", "-c", SCRIPT, "await", ROOT, room]
+            return subprocess.run(words, timeout=60).returncode
 
     def test_a_crate_that_was_proved_now(self) -> None:
         self.assertEqual(self.status(PROVED), 0)
