@@ -22,7 +22,7 @@ VARIABLE = re.compile(r"\bAMO_[A-Z_]*[A-Z]\b")
 MORE_STATUSES = {"amo": {125}, "amo_show": {125}, "amo_worker": {64, 125}}
 OF_WORKER = ("amo_jobs", "amo_share")  # pass on the statuses of amo_worker, and 64
 PLAN_KEYS = ("crates/amo_plan/specs/Top.antt", "crates/amo_plan/specs/Jobs.antt")
-LIMITS = ("crates/amo_plan/src/limits.rt", "crates/amo_givens/src/limits.rt")
+LIMITS = ("crates/amo_plan/src/limits.rt", "crates/amo_params/src/limits.rt")
 # Limits that the pages don't name: of versions, of digits, and the same again.
 UNNAMED = {"NEWEST_VERSION", "HIGHEST_IN_WORD", "HIGHEST_NUMBER"}
 OF_NAMES = "python/amo_watch/"  # makes the names of variables from the kinds of lines

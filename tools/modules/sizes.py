@@ -17,7 +17,7 @@ from definitions import Tree
 THEOREMS = [
     ("amo_program_safety", "programs_and_commands_perform_each_line_at_most_once"),
     ("amo_program_safety", "programs_and_commands_run_by_journals_alone"),
-    ("amo_clearance_safety", "lines_are_performed_once_by_journals_alone"),
+    ("amo_safety_by_journals", "lines_are_performed_once_by_journals_alone"),
     ("amo_kk", "history_is_a_run"),
 ]
 # Each part with its files, and how a comment begins there.

@@ -1,4 +1,4 @@
-"""The model of crates/amo_clearance_safety/specs, with the rule Clearance: which events may follow
+"""The model of crates/amo_safety_by_journals/specs, with the rule Clearance: which events may follow
 each other. It finds an order for the events of a log, and no verdict rests on it: that is the
 task of the proved judge, `amo_show judge --run`."""
 

@@ -1,6 +1,6 @@
 //! Processes, out of memory, and the calls that take none.
-use amo_givens::Givens;
 use amo_kk::Local;
+use amo_params::Givens;
 use amo_process::{Access, Process, items_of, standing_of};
 use std::alloc::{AllocError, Global};
 use std::process::Abort;

@@ -8,7 +8,7 @@ ghost use Rattle.amo_args.specs.Commands.{IsWithinRanges, amo_app, explore_app, 
 
 use crate::request::Request;
 use amo_cli::Fault;
-use amo_givens::MAX_WORKERS;
+use amo_params::MAX_WORKERS;
 use amo_plan::{MOST_COUNT, MOST_FIRST, MOST_TURNS, number_within};
 use amo_report::Wanted;
 use clap::error::ErrorKind;

@@ -6,10 +6,10 @@ use Rattle.std.proofs.lemmas.Bool.{true≢false, ltb-false}
 use Rattle.amo_sets.specs.Lists.{numbered}
 use Rattle.amo_sets.specs.Sets.{has}
 use Rattle.amo_sets.specs.Rank.{count}
-use Rattle.amo_givens.specs.Givens.{IsOther}
+use Rattle.amo_params.specs.Givens.{IsOther}
 use Rattle.amo_kk.specs.Record.{is_open}
 use Rattle.amo_kk.specs.Choice.{chosen_job, record_after_choice, record_after_check}
-use Rattle.amo_givens.specs.declared.givens.Givens.{Givens}
+use Rattle.amo_params.specs.declared.givens.Givens.{Givens}
 use Rattle.amo_kk.specs.declared.phase.Phase.TheVariants.{Announcing, Claiming, Over}
 use Rattle.amo_kk.specs.declared.model.Record.{Record}
 use Rattle.amo_kk.specs.declared.model.Process.{Process}

@@ -7,12 +7,12 @@ use Rattle.amo_sets.specs.Sets.{has}
 use Rattle.amo_sets.specs.Rank.{count}
 use Rattle.amo_sets.proofs.Numbers.{get_or-has}
 use Rattle.amo_sets.proofs.Tally.{count_same}
-use Rattle.amo_givens.specs.Givens.{IsJob, IsWorker, IsOther, next_other}
+use Rattle.amo_params.specs.Givens.{IsJob, IsWorker, IsOther, next_other}
 use Rattle.amo_kk.specs.Record.{is_free, is_open}
 use Rattle.amo_kk.specs.Choice.{chosen_rank, chosen_job, record_after_check}
 use Rattle.amo_kk.specs.Step.{with_announced}
 use Rattle.amo_kk.specs.Lawful.{IsDone}
-use Rattle.amo_givens.specs.declared.givens.Givens.{Givens}
+use Rattle.amo_params.specs.declared.givens.Givens.{Givens}
 use Rattle.amo_kk.specs.declared.phase.Phase.{Phase}
 use Rattle.amo_kk.specs.declared.phase.Phase.TheVariants.{Announcing, Trying, Reading}
 use Rattle.amo_kk.specs.declared.model.Record.{Record}

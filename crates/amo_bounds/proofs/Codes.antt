@@ -5,10 +5,10 @@ use Rattle.std.proofs.lemmas.Bool.{cases_lt}
 use Rattle.std.proofs.lemmas.List.{get_or_past, length-map}
 use Rattle.amo_sets.specs.Sets.{has}
 use Rattle.amo_sets.proofs.Numbers.{has-get_or, get_or-has, length_distinct, count_le_all}
-use Rattle.amo_givens.specs.Givens.{IsJob, IsWorker, IsOther}
+use Rattle.amo_params.specs.Givens.{IsJob, IsWorker, IsOther}
 use Rattle.amo_kk.specs.World.{nobody, process}
 use Rattle.amo_kk.specs.Lawful.{FitsPhase, IsSoundProcess, IsLawful}
-use Rattle.amo_givens.specs.declared.givens.Givens.{Givens}
+use Rattle.amo_params.specs.declared.givens.Givens.{Givens}
 use Rattle.amo_kk.specs.declared.phase.Phase.{Phase}
 use Rattle.amo_kk.specs.declared.phase.Phase.TheVariants.{Announcing, Trying, Reading, Claiming, Holding, Over, Left}
 use Rattle.amo_kk.specs.declared.model.Process.{Process}

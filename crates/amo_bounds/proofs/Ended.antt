@@ -7,22 +7,22 @@ use Rattle.amo_sets.specs.Sets.{has}
 use Rattle.amo_sets.specs.Rank.{count}
 use Rattle.amo_sets.proofs.Numbers.{count_has, numbered-put_same}
 use Rattle.amo_sets.proofs.Tables.{numbered-table}
-use Rattle.amo_givens.specs.Givens.{IsWorker}
+use Rattle.amo_params.specs.Givens.{IsWorker}
 use Rattle.amo_kk.specs.Record.{empty_record, is_over, wants_nothing, can_leave}
 use Rattle.amo_kk.specs.Step.{record_after_leave}
 use Rattle.amo_kk.specs.declared.phase.Phase.{Phase}
 use Rattle.amo_kk.specs.declared.phase.Phase.TheVariants.{Over, Left}
 use Rattle.amo_kk.specs.declared.phase.Want.TheVariants.{StoreNext}
 use Rattle.amo_kk.specs.declared.event.Event.TheVariants.{Left as EventLeft}
-use Rattle.amo_givens.specs.Moves.{worker_of}
+use Rattle.amo_params.specs.Moves.{worker_of}
 use Rattle.amo_kk.specs.World.{nobody, process, world_after_turn, world_after_move, world_after_moves, world_after_leave, world_with, process_after, first_process, opening_world, world_of}
 use Rattle.amo_kk.specs.Lawful.{IsLawful}
-use Rattle.amo_givens.specs.declared.givens.Givens.{Givens}
+use Rattle.amo_params.specs.declared.givens.Givens.{Givens}
 use Rattle.amo_kk.specs.declared.model.Record.{Record}
 use Rattle.amo_kk.specs.declared.model.Process.{Process}
 use Rattle.amo_kk.specs.declared.model.World.{World}
-use Rattle.amo_givens.specs.declared.moves.Move.{Move}
-use Rattle.amo_givens.specs.declared.moves.Move.TheVariants.{Turn, Halt, Leave}
+use Rattle.amo_params.specs.declared.moves.Move.{Move}
+use Rattle.amo_params.specs.declared.moves.Move.TheVariants.{Turn, Halt, Leave}
 use Rattle.amo_kk.proofs.Choice.{choice_cases}
 use Rattle.amo_kk.proofs.Moves.{move_other}
 use Rattle.amo_kk.proofs.Shows.{idle}

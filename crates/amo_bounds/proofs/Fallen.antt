@@ -6,10 +6,10 @@ use Rattle.amo_sets.specs.Lists.{numbered}
 use Rattle.amo_sets.specs.Sets.{has}
 use Rattle.amo_sets.specs.Rank.{count}
 use Rattle.amo_sets.proofs.Numbers.{get_or-has}
-use Rattle.amo_givens.specs.Givens.{IsJob, IsOther}
+use Rattle.amo_params.specs.Givens.{IsJob, IsOther}
 use Rattle.amo_kk.specs.Record.{is_free}
 use Rattle.amo_kk.specs.Lawful.{AreLawful, IsSoundProcess}
-use Rattle.amo_givens.specs.declared.givens.Givens.{Givens}
+use Rattle.amo_params.specs.declared.givens.Givens.{Givens}
 use Rattle.amo_kk.specs.declared.phase.Phase.{Phase}
 use Rattle.amo_kk.specs.declared.model.Record.{Record}
 use Rattle.amo_kk.specs.declared.model.Process.{Process}

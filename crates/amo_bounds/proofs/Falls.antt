@@ -4,9 +4,9 @@ use Rattle.std.proofs.lemmas.Bool.{cases_eq}
 use Rattle.amo_sets.specs.Lists.{numbered, put}
 use Rattle.amo_sets.specs.Sets.{has, with_number}
 use Rattle.amo_sets.proofs.Numbers.{numbered-put_same, numbered-put_other}
-use Rattle.amo_givens.specs.Givens.{IsOther, next_other}
+use Rattle.amo_params.specs.Givens.{IsOther, next_other}
 use Rattle.amo_kk.specs.Choice.{record_after_check}
-use Rattle.amo_givens.specs.declared.givens.Givens.{Givens}
+use Rattle.amo_params.specs.declared.givens.Givens.{Givens}
 use Rattle.amo_kk.specs.declared.phase.Phase.TheVariants.{Announcing, Reading, Claiming, Holding}
 use Rattle.amo_kk.specs.declared.model.Record.{Record}
 use Rattle.amo_kk.specs.declared.model.Process.{Process}

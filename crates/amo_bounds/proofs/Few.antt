@@ -6,20 +6,20 @@ use Rattle.amo_sets.specs.Lists.{numbered}
 use Rattle.amo_sets.specs.Sets.{has}
 use Rattle.amo_sets.proofs.Numbers.{count_true}
 use Rattle.amo_sets.proofs.Tables.{numbered-table}
-use Rattle.amo_givens.specs.Givens.{IsWorker, IsOther}
+use Rattle.amo_params.specs.Givens.{IsWorker, IsOther}
 use Rattle.amo_kk.specs.Record.{is_over, can_leave, empty_record}
 use Rattle.amo_kk.specs.Choice.{first_record}
 use Rattle.amo_kk.specs.Step.{record_after_leave}
 use Rattle.amo_kk.specs.World.{nobody, process, process_after, first_process, world_after_step, world_after_move, world_after_turn, opening_world, world_of, rounds}
 use Rattle.amo_kk.specs.Lawful.{IsLawful}
-use Rattle.amo_givens.specs.declared.givens.Givens.{Givens}
+use Rattle.amo_params.specs.declared.givens.Givens.{Givens}
 use Rattle.amo_kk.specs.declared.phase.Phase.TheVariants.{Left}
 use Rattle.amo_kk.specs.declared.phase.Want.TheVariants.{StoreNext}
 use Rattle.amo_kk.specs.declared.model.Record.{Record}
 use Rattle.amo_kk.specs.declared.model.Process.{Process}
 use Rattle.amo_kk.specs.declared.model.World.{World}
-use Rattle.amo_givens.specs.declared.moves.Move.{Move}
-use Rattle.amo_givens.specs.declared.moves.Move.TheVariants.{Turn, Halt, Leave}
+use Rattle.amo_params.specs.declared.moves.Move.{Move}
+use Rattle.amo_params.specs.declared.moves.Move.TheVariants.{Turn, Halt, Leave}
 use Rattle.amo_kk.proofs.Choice.{choice_cases}
 use Rattle.amo_kk.proofs.Worlds.{here_is_worker, move_lawful, opening_lawful}
 use Rattle.amo_bounds.specs.Rest.{without_steps, is_taken, turns_taken, turns_of}

@@ -3,13 +3,13 @@ use Rattle.std.proofs.Common.{◌≡◌, ⊎_elim, ℕ, ◌+◌, ◌<◌, ◌≤
 use Rattle.std.specs.Prelude.{if◌then◌else◌, ◌==◌}
 use Rattle.std.proofs.lemmas.Bool.{cases_lt, le-ltb, lt-ltb}
 use Rattle.amo_sets.specs.Sets.{has}
-use Rattle.amo_givens.specs.Givens.{IsWorker, bound}
+use Rattle.amo_params.specs.Givens.{IsWorker, bound}
 use Rattle.amo_kk.specs.Record.{is_over}
 use Rattle.amo_kk.specs.World.{process, world_of}
 use Rattle.amo_kk.specs.Lawful.{IsSoundProcess, IsLawful, object_of}
-use Rattle.amo_givens.specs.declared.givens.Givens.{Givens}
+use Rattle.amo_params.specs.declared.givens.Givens.{Givens}
 use Rattle.amo_kk.specs.declared.model.Record.{Record}
-use Rattle.amo_givens.specs.declared.moves.Move.{Move}
+use Rattle.amo_params.specs.declared.moves.Move.{Move}
 use Rattle.amo_kk.proofs.Worlds.{always_lawful}
 use Rattle.amo_kk.proofs.Steps.{enough}
 use Rattle.amo_kk.proofs.Ends.{over_few}

@@ -8,14 +8,14 @@ use Rattle.amo_sets.specs.Lists.{numbered, put}
 use Rattle.amo_sets.specs.Sets.{has}
 use Rattle.amo_sets.proofs.Numbers.{numbered-put_other}
 use Rattle.amo_sets.proofs.Tables.{numbered-table}
-use Rattle.amo_givens.specs.Givens.{IsWorker, IsOther, next_other}
+use Rattle.amo_params.specs.Givens.{IsWorker, IsOther, next_other}
 use Rattle.amo_kk.specs.Record.{is_over, can_leave, jobs_in_hand, empty_record}
 use Rattle.amo_kk.specs.Choice.{record_after_check}
 use Rattle.amo_kk.specs.Step.{with_announced, record_after_leave}
 use Rattle.amo_kk.specs.Run.{done_jobs}
 use Rattle.amo_kk.specs.World.{nobody, process, process_after, world_with, world_after_turn, world_after_halt, world_after_leave, world_after_moves, first_process, opening_world, world_after_move, world_of}
 use Rattle.amo_kk.specs.Lawful.{IsLawful}
-use Rattle.amo_givens.specs.declared.givens.Givens.{Givens}
+use Rattle.amo_params.specs.declared.givens.Givens.{Givens}
 use Rattle.amo_kk.specs.declared.phase.Phase.{Phase}
 use Rattle.amo_kk.specs.declared.phase.Phase.TheVariants.{Announcing, Trying, Reading, Claiming, Holding, Over, Left}
 use Rattle.amo_kk.specs.declared.phase.Want.TheVariants.{StoreNext}
@@ -23,8 +23,8 @@ use Rattle.amo_kk.specs.declared.model.Record.{Record}
 use Rattle.amo_kk.specs.declared.model.Process.{Process}
 use Rattle.amo_kk.specs.declared.model.World.{World}
 use Rattle.amo_kk.specs.declared.event.Event.TheVariants.{Halted, Left as LeftEvent}
-use Rattle.amo_givens.specs.declared.moves.Move.{Move}
-use Rattle.amo_givens.specs.declared.moves.Move.TheVariants.{Turn, Halt, Leave}
+use Rattle.amo_params.specs.declared.moves.Move.{Move}
+use Rattle.amo_params.specs.declared.moves.Move.TheVariants.{Turn, Halt, Leave}
 use Rattle.amo_kk.proofs.Choice.{choice_cases}
 use Rattle.amo_kk.proofs.FirstChoice.{ranks_rise}
 use Rattle.amo_kk.proofs.Kept.{noted_cases}

@@ -4,13 +4,13 @@ use Rattle.std.proofs.lemmas.List.{length-map}
 use Rattle.amo_sets.specs.Sets.{has}
 use Rattle.amo_sets.specs.Rank.{count}
 use Rattle.amo_sets.proofs.Numbers.{count_has, count_neither, count_nothing}
-use Rattle.amo_givens.specs.Givens.{IsJob}
+use Rattle.amo_params.specs.Givens.{IsJob}
 use Rattle.amo_kk.specs.Run.{done_jobs}
 use Rattle.amo_kk.specs.World.{world_after_move, world_after_moves, opening_world}
 use Rattle.amo_kk.specs.Lawful.{IsLawful, HasRun, object_of}
-use Rattle.amo_givens.specs.declared.givens.Givens.{Givens}
+use Rattle.amo_params.specs.declared.givens.Givens.{Givens}
 use Rattle.amo_kk.specs.declared.model.World.{World}
-use Rattle.amo_givens.specs.declared.moves.Move.{Move}
+use Rattle.amo_params.specs.declared.moves.Move.{Move}
 use Rattle.amo_kk.proofs.Counts.{performed_count}
 use Rattle.amo_kk.proofs.Runs.{move_runs, always_runs}
 use Rattle.amo_kk.proofs.Steps.{all_jobs, has_all}

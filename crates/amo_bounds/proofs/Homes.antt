@@ -9,10 +9,10 @@ use Rattle.amo_sets.specs.Sets.{has}
 use Rattle.amo_sets.specs.Rank.{count}
 use Rattle.amo_sets.proofs.Numbers.{count_le, count_without, count_has, IsRanked}
 use Rattle.amo_sets.proofs.Tally.{count_same}
-use Rattle.amo_givens.specs.Givens.{IsJob, IsWorker}
+use Rattle.amo_params.specs.Givens.{IsJob, IsWorker}
 use Rattle.amo_kk.specs.Record.{is_free, is_open}
 use Rattle.amo_kk.specs.Choice.{chosen_rank, chosen_job}
-use Rattle.amo_givens.specs.declared.givens.Givens.{Givens}
+use Rattle.amo_params.specs.declared.givens.Givens.{Givens}
 use Rattle.amo_kk.specs.declared.model.Record.{Record}
 use Rattle.amo_kk.proofs.Choice.{open_parts, chosen_is}
 use Rattle.amo_bounds.specs.Turns.{width}

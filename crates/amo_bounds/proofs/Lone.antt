@@ -8,7 +8,7 @@ use Rattle.std.proofs.lemmas.List.{length_push}
 use Rattle.amo_sets.specs.Sets.{has, AreDistinct, with_number}
 use Rattle.amo_sets.specs.Rank.{count}
 use Rattle.amo_sets.proofs.Numbers.{count_le, count_more, count_neither, count_has, length_distinct, has_push_cases, has_push, has_push_kept, has_with_same, has_with_kept, has_with_cases}
-use Rattle.amo_givens.specs.Givens.{IsJob, IsWorker, IsOther, next_other, bound}
+use Rattle.amo_params.specs.Givens.{IsJob, IsWorker, IsOther, next_other, bound}
 use Rattle.amo_kk.specs.Record.{is_over, jobs_in_hand, empty_record}
 use Rattle.amo_kk.specs.Choice.{chosen_job, record_after_choice, record_after_check, first_record}
 use Rattle.amo_kk.specs.Step.{want, with_announced, record_after_phase}
@@ -16,7 +16,7 @@ use Rattle.amo_kk.specs.Run.{done_jobs}
 use Rattle.amo_kk.specs.World.{process, loaded_value, world_after_turn}
 use Rattle.amo_kk.specs.Alone.{world_after_turns}
 use Rattle.amo_kk.specs.Lawful.{IsLawful, IsSoundProcess}
-use Rattle.amo_givens.specs.declared.givens.Givens.{Givens}
+use Rattle.amo_params.specs.declared.givens.Givens.{Givens}
 use Rattle.amo_kk.specs.declared.phase.Phase.{Phase}
 use Rattle.amo_kk.specs.declared.phase.Phase.TheVariants.{Announcing, Trying, Reading, Claiming, Holding, Over, Left}
 use Rattle.amo_kk.specs.declared.model.Record.{Record}

@@ -4,12 +4,12 @@ use Rattle.std.proofs.Common.{◌≡◌, ℕ, zero, suc, ◌+◌, ◌-◌, ◌*�
 use Rattle.std.proofs.lemmas.Bool.{true≢false}
 use Rattle.std.proofs.lemmas.List.{length_push}
 use Rattle.amo_sets.specs.Sets.{with_number}
-use Rattle.amo_givens.specs.Givens.{next_other}
+use Rattle.amo_params.specs.Givens.{next_other}
 use Rattle.amo_kk.specs.Record.{is_over}
 use Rattle.amo_kk.specs.Choice.{record_after_choice, record_after_check, first_record}
 use Rattle.amo_kk.specs.World.{process, world_after_turn}
 use Rattle.amo_kk.specs.Alone.{world_after_turns}
-use Rattle.amo_givens.specs.declared.givens.Givens.{Givens}
+use Rattle.amo_params.specs.declared.givens.Givens.{Givens}
 use Rattle.amo_kk.specs.declared.phase.Phase.{Phase}
 use Rattle.amo_kk.specs.declared.phase.Phase.TheVariants.{Announcing, Trying, Reading, Claiming, Holding, Over, Left}
 use Rattle.amo_kk.specs.declared.model.Record.{Record}

@@ -6,11 +6,11 @@ use Rattle.amo_sets.specs.Sets.{has, with_number}
 use Rattle.amo_sets.specs.Rank.{count}
 use Rattle.amo_sets.proofs.Numbers.{has-append, has_push, has_push_kept, has_push_cases}
 use Rattle.amo_sets.proofs.Tally.{count_gain}
-use Rattle.amo_givens.specs.Givens.{IsJob}
+use Rattle.amo_params.specs.Givens.{IsJob}
 use Rattle.amo_kk.specs.Record.{jobs_in_hand}
 use Rattle.amo_kk.specs.Choice.{record_after_choice}
 use Rattle.amo_kk.specs.Lawful.{IsDone}
-use Rattle.amo_givens.specs.declared.givens.Givens.{Givens}
+use Rattle.amo_params.specs.declared.givens.Givens.{Givens}
 use Rattle.amo_kk.specs.declared.phase.Phase.{Phase}
 use Rattle.amo_kk.specs.declared.phase.Phase.TheVariants.{Announcing, Trying, Reading, Holding}
 use Rattle.amo_kk.specs.declared.model.Record.{Record}

@@ -7,10 +7,10 @@ use Rattle.amo_sets.specs.Sets.{has, AreDistinct}
 use Rattle.amo_sets.proofs.Numbers.{length_distinct, count_le_all}
 use Rattle.amo_kk.specs.World.{process, world_after_move, world_after_moves, opening_world, world_of}
 use Rattle.amo_kk.specs.Lawful.{IsLawful}
-use Rattle.amo_givens.specs.declared.givens.Givens.{Givens}
+use Rattle.amo_params.specs.declared.givens.Givens.{Givens}
 use Rattle.amo_kk.specs.declared.model.World.{World}
-use Rattle.amo_givens.specs.declared.moves.Move.{Move}
-use Rattle.amo_givens.specs.declared.moves.Move.TheVariants.{Turn, Halt, Leave}
+use Rattle.amo_params.specs.declared.moves.Move.{Move}
+use Rattle.amo_params.specs.declared.moves.Move.TheVariants.{Turn, Halt, Leave}
 use Rattle.amo_kk.proofs.Worlds.{move_lawful, opening_lawful}
 use Rattle.amo_bounds.specs.Rest.{is_taken, turns_taken, turns_of}
 use Rattle.amo_bounds.proofs.Return.{after_gone, no_return}

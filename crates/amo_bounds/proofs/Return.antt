@@ -7,12 +7,12 @@ use Rattle.amo_kk.specs.Record.{can_leave}
 use Rattle.amo_kk.specs.Step.{want, record_after, record_after_leave}
 use Rattle.amo_kk.specs.World.{process, process_after, world_after_turn, world_after_move, world_after_moves}
 use Rattle.amo_kk.specs.Lawful.{IsLawful}
-use Rattle.amo_givens.specs.declared.givens.Givens.{Givens}
+use Rattle.amo_params.specs.declared.givens.Givens.{Givens}
 use Rattle.amo_kk.specs.declared.phase.Want.TheVariants.{StoreNext}
 use Rattle.amo_kk.specs.declared.model.Process.{Process}
 use Rattle.amo_kk.specs.declared.model.World.{World}
-use Rattle.amo_givens.specs.declared.moves.Move.{Move}
-use Rattle.amo_givens.specs.declared.moves.Move.TheVariants.{Turn, Halt, Leave}
+use Rattle.amo_params.specs.declared.moves.Move.{Move}
+use Rattle.amo_params.specs.declared.moves.Move.TheVariants.{Turn, Halt, Leave}
 use Rattle.amo_kk.proofs.Worlds.{move_lawful, worlds_lawful}
 use Rattle.amo_bounds.specs.Rest.{without_steps, AreAlike}
 use Rattle.amo_bounds.proofs.Still.{heard, view, moved, view_moved, still_lawful, turn_of}

@@ -6,20 +6,20 @@ use Rattle.std.proofs.lemmas.List.{length_push}
 use Rattle.amo_sets.specs.Lists.{numbered, put, table}
 use Rattle.amo_sets.proofs.Numbers.{numbered-put_other}
 use Rattle.amo_sets.proofs.Tables.{numbered-table}
-use Rattle.amo_givens.specs.Givens.{IsWorker}
+use Rattle.amo_params.specs.Givens.{IsWorker}
 use Rattle.amo_kk.specs.Record.{wants_nothing, jobs_in_hand, empty_record}
 use Rattle.amo_kk.specs.Choice.{chosen_rank, first_record}
 use Rattle.amo_kk.specs.Step.{want, record_after_phase}
 use Rattle.amo_kk.specs.Run.{done_jobs}
 use Rattle.amo_kk.specs.World.{nobody, process, loaded_value, world_with, world_after_turn, world_after_halt, first_process, opening_world, world_of}
 use Rattle.amo_kk.specs.Lawful.{IsLawful}
-use Rattle.amo_givens.specs.declared.givens.Givens.{Givens}
+use Rattle.amo_params.specs.declared.givens.Givens.{Givens}
 use Rattle.amo_kk.specs.declared.phase.Phase.TheVariants.{Announcing}
 use Rattle.amo_kk.specs.declared.model.Record.{Record}
 use Rattle.amo_kk.specs.declared.model.Process.{Process}
 use Rattle.amo_kk.specs.declared.model.World.{World}
 use Rattle.amo_kk.specs.declared.event.Event.TheVariants.{Halted, Ended}
-use Rattle.amo_givens.specs.declared.moves.Move.TheVariants.{Turn, Halt}
+use Rattle.amo_params.specs.declared.moves.Move.TheVariants.{Turn, Halt}
 use Rattle.amo_kk.proofs.Choice.{choice_cases}
 use Rattle.amo_kk.proofs.FirstChoice.{first_choice}
 use Rattle.amo_kk.proofs.Worlds.{opening_lawful, halt_lawful, put_here}

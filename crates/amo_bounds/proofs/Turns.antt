@@ -2,7 +2,7 @@
 use Rattle.std.proofs.Common.{◌≡◌, ◌≢◌, ℕ, Bool, true, false, [], ◌∷◌, ◌++◌, refl, ap, ◌∙◌, not, ◌&&◌}
 use Rattle.std.specs.Prelude.{if◌then◌else◌}
 use Rattle.amo_sets.specs.Sets.{has}
-use Rattle.amo_givens.specs.Givens.{IsWorker}
+use Rattle.amo_params.specs.Givens.{IsWorker}
 use Rattle.amo_kk.specs.Choice.{record_after_choice, record_after_check}
 use Rattle.amo_kk.specs.Record.{is_over, jobs_in_hand}
 use Rattle.amo_kk.specs.Run.{done_jobs}
@@ -10,7 +10,7 @@ use Rattle.amo_kk.specs.Step.{want_in, shown, events_of}
 use Rattle.amo_kk.specs.World.{process, process_after, world_after_turn}
 use Rattle.amo_kk.specs.Answer.{turn_shown}
 use Rattle.amo_kk.specs.Lawful.{IsLawful}
-use Rattle.amo_givens.specs.declared.givens.Givens.{Givens}
+use Rattle.amo_params.specs.declared.givens.Givens.{Givens}
 use Rattle.amo_kk.specs.declared.phase.Phase.{Phase}
 use Rattle.amo_kk.specs.declared.phase.Phase.TheVariants.{Announcing, Claiming, Holding, Over, Left}
 use Rattle.amo_kk.specs.declared.model.Record.{Record}

@@ -1,13 +1,13 @@
 -- How few jobs may be done once a worker has ended, and over which moves that is the least.
 use Rattle.std.specs.Prelude.{◌≡◌, ℕ, ◌<◌, ◌≤◌, true, false, List, [], ◌∷◌, length, nat_lt, ◌==◌, if◌then◌else◌}
 use Rattle.amo_sets.specs.Sets.{has}
-use Rattle.amo_givens.specs.Givens.{bound, IsWorker}
+use Rattle.amo_params.specs.Givens.{bound, IsWorker}
 use Rattle.amo_kk.specs.Record.{is_over}
 use Rattle.amo_kk.specs.Run.{done_jobs}
 use Rattle.amo_kk.specs.World.{process, world_of}
-use Rattle.amo_givens.specs.declared.givens.Givens.{Givens}
-use Rattle.amo_givens.specs.declared.moves.Move.{Move}
-use Rattle.amo_givens.specs.declared.moves.Move.TheVariants.{Halt, Leave}
+use Rattle.amo_params.specs.declared.givens.Givens.{Givens}
+use Rattle.amo_params.specs.declared.moves.Move.{Move}
+use Rattle.amo_params.specs.declared.moves.Move.TheVariants.{Halt, Leave}
 
 -- none if there are fewer jobs than the threshold, since all are over from birth; else the bound,
 -- but at least one

@@ -1,6 +1,6 @@
 -- How many turns are taken at most, if many jobs are free or the threshold is high.
 use Rattle.std.specs.Prelude.{ℕ, ◌+◌, ◌-◌, ◌*◌}
-use Rattle.amo_givens.specs.declared.givens.Givens.{Givens}
+use Rattle.amo_params.specs.declared.givens.Givens.{Givens}
 
 -- if so many jobs are free, no two workers that know the done jobs choose near each other: m m + m
 -- - 1, for m workers

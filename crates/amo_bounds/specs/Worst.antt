@@ -1,8 +1,8 @@
 -- Moves after which no more jobs are done than the fewest.
 use Rattle.std.specs.Prelude.{ℕ, zero, suc, ◌+◌, ◌-◌, ◌*◌, List, [], ◌∷◌, ◌++◌, replicate, nat_lt, if◌then◌else◌}
-use Rattle.amo_givens.specs.declared.givens.Givens.{Givens}
-use Rattle.amo_givens.specs.declared.moves.Move.{Move}
-use Rattle.amo_givens.specs.declared.moves.Move.TheVariants.{Turn, Halt}
+use Rattle.amo_params.specs.declared.givens.Givens.{Givens}
+use Rattle.amo_params.specs.declared.moves.Move.{Move}
+use Rattle.amo_params.specs.declared.moves.Move.TheVariants.{Turn, Halt}
 use Rattle.amo_bounds.specs.Fewest.{fewest}
 
 -- each of the first k others of worker 1 announces its first choice, and is halted

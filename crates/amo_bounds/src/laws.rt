@@ -4,14 +4,14 @@
 //! The moves are any turns, halts and leaves, in any order, unless a theorem says which.
 ghost use Rattle.std.specs.Prelude.{◌≡◌, ◌≢◌, ◌<◌, ◌≤◌, ◌+◌, ℕ, true, false, List, ◌∷◌};
 ghost use Rattle.amo_sets.specs.Sets.{has};
-ghost use Rattle.amo_givens.specs.Givens.{IsWorker};
+ghost use Rattle.amo_params.specs.Givens.{IsWorker};
 ghost use Rattle.amo_kk.specs.Record.{is_over};
 ghost use Rattle.amo_kk.specs.World.{process, world_after_moves, opening_world, world_of, rounds};
 ghost use Rattle.amo_kk.specs.Lawful.{IsLawful};
 ghost use Rattle.amo_kk.specs.declared.phase.Phase.{Phase};
-ghost use Rattle.amo_givens.specs.declared.givens.Givens.{Givens};
-ghost use Rattle.amo_givens.specs.declared.moves.Move.{Move};
-ghost use Rattle.amo_givens.specs.declared.moves.Move.TheVariants.{Turn};
+ghost use Rattle.amo_params.specs.declared.givens.Givens.{Givens};
+ghost use Rattle.amo_params.specs.declared.moves.Move.{Move};
+ghost use Rattle.amo_params.specs.declared.moves.Move.TheVariants.{Turn};
 ghost use Rattle.amo_kk.specs.declared.model.World.{World};
 ghost use Rattle.amo_bounds.specs.Fewest.{fewest, jobs_done, stopped, leavers, IsWorst, IsEffectiveness};
 ghost use Rattle.amo_bounds.specs.Rest.{turns_taken, turns_of, AreAlike};

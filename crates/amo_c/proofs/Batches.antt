@@ -4,8 +4,8 @@ use Rattle.std.specs.Prelude.{if◌then◌else◌, ◌==◌, map}
 use Rattle.std.specs.List.{All}
 use Rattle.std.proofs.lemmas.Bool.{true≢false}
 use Rattle.std.specs.Result.{is_ok, result_ok}
-use Rattle.amo_givens.specs.Givens.{IsWorker, is_within}
-use Rattle.amo_givens.specs.declared.givens.Givens.{Givens}
+use Rattle.amo_params.specs.Givens.{IsWorker, is_within}
+use Rattle.amo_params.specs.declared.givens.Givens.{Givens}
 use Rattle.amo_kk.specs.Step.{want, is_load}
 use Rattle.amo_kk.specs.Words.{next_word, claim_word, done_word, word_count}
 use Rattle.amo_kk.specs.declared.phase.Want.{Want}

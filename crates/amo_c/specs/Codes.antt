@@ -1,7 +1,7 @@
 -- The numbers that C is given, and for what each stands.
 use Rattle.std.specs.Prelude.{ℕ}
-use Rattle.amo_givens.specs.declared.givens.GivensFault.{GivensFault}
-use Rattle.amo_givens.specs.declared.givens.GivensFault.TheVariants.{TooManyJobs, NoWorkers, TooManyWorkers, BetaLow, BetaHigh}
+use Rattle.amo_params.specs.declared.givens.GivensFault.{GivensFault}
+use Rattle.amo_params.specs.declared.givens.GivensFault.TheVariants.{TooManyJobs, NoWorkers, TooManyWorkers, BetaLow, BetaHigh}
 use Rattle.amo_kk.specs.declared.phase.Phase.{Phase}
 use Rattle.amo_kk.specs.declared.phase.Phase.TheVariants.{Announcing, Trying, Reading, Claiming, Holding, Over, Left}
 use Rattle.amo_process.specs.declared.access.Access.{Access}

@@ -1,10 +1,10 @@
 -- The replies of the calls, as functions of their arguments. Refused memory is left out.
 use Rattle.std.specs.Prelude.{ℕ, ◌+◌, Bool, List, Option, Some, None, Result, Ok, Err, if◌then◌else◌}
 use Rattle.std.specs.Result.{is_ok}
-use Rattle.amo_givens.specs.Givens.{givens_of, bound, is_within}
+use Rattle.amo_params.specs.Givens.{givens_of, bound, is_within}
 use Rattle.amo_kk.specs.Words.{next_word, claim_word, done_word, word_count}
-use Rattle.amo_givens.specs.declared.givens.Givens.{Givens}
-use Rattle.amo_givens.specs.declared.givens.GivensFault.{GivensFault}
+use Rattle.amo_params.specs.declared.givens.Givens.{Givens}
+use Rattle.amo_params.specs.declared.givens.GivensFault.{GivensFault}
 use Rattle.amo_process.specs.Heard.{standing_of}
 use Rattle.amo_process.specs.declared.standing.Standing.{Standing}
 use Rattle.amo_c.specs.Codes.{fault_code, fault_of}

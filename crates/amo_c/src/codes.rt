@@ -2,8 +2,8 @@
 ghost use Rattle.std.specs.Prelude.{◌≡◌};
 ghost use Rattle.amo_c.specs.Codes.{access_code, phase_code, fault_code, kind_of, phase_of, fault_of};
 
-use amo_givens::GivensFault;
 use amo_kk::Phase;
+use amo_params::GivensFault;
 use amo_process::Access;
 
 /// `AccessCode`: the kind of an access.

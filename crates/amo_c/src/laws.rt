@@ -1,6 +1,6 @@
 //! The theorems on what C sees: it is what the processes of the definitions do. Nothing here runs.
 ghost use Rattle.std.specs.Prelude.{◌≡◌, ◌≢◌, ◌+◌, ◌++◌, ◌∷◌, [], ℕ, true, Bool, List, Some, Ok, Err};
-ghost use Rattle.amo_givens.specs.Givens.{IsWorker};
+ghost use Rattle.amo_params.specs.Givens.{IsWorker};
 ghost use Rattle.amo_kk.specs.Record.{job_in_hand};
 ghost use Rattle.amo_kk.specs.Machine.{LocalView};
 ghost use Rattle.amo_process.specs.Batch.{items_of, left_after_all};

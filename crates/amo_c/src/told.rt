@@ -1,6 +1,6 @@
 //! The values that C gives and gets.
 ghost use Rattle.std.specs.Prelude.{◌≡◌, ◌<◌, ◌+◌, Ok, IfOk};
-ghost use Rattle.amo_givens.specs.Givens.{IsWorker};
+ghost use Rattle.amo_params.specs.Givens.{IsWorker};
 ghost use Rattle.amo_kk.specs.Record.{job_in_hand};
 ghost use Rattle.amo_kk.specs.Words.{word_count};
 ghost use Rattle.amo_process.specs.Heard.{IsOf};

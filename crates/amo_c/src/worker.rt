@@ -1,6 +1,6 @@
 //! The worker to which a call belongs.
 ghost use Rattle.std.specs.Prelude.{◌≡◌, ◌≢◌, ◌+◌, ◌<◌, ◌≤◌, Ok, Err, IfOk, IfErr};
-ghost use Rattle.amo_givens.specs.Givens.{IsWorker};
+ghost use Rattle.amo_params.specs.Givens.{IsWorker};
 ghost use Rattle.amo_kk.specs.Choice.{first_record};
 ghost use Rattle.amo_process.specs.Heard.{IsOf};
 ghost use Rattle.amo_c.specs.Reply.{givens_in, worker_in, standing_in};
@@ -8,8 +8,8 @@ ghost use Rattle.amo_c.specs.declared.codes.FaultCode.TheVariants.{NoMemory};
 
 use crate::codes::FaultCode;
 use crate::told::AmoGivens;
-use amo_givens::Givens;
 use amo_kk::Local;
+use amo_params::Givens;
 use amo_process::{NoSuchNumber, Standing, standing_of};
 use std::alloc::Global;
 

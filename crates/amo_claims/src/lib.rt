@@ -62,7 +62,7 @@
 //! done. In a function with a clause, put the loop into a function that takes `&Floor`: beside an
 //! owned floor an invariant sees only `floor-inside`. The prover accepted the crate `claims_caller`
 //! with these two files (`rattle check`, 2026-11-30). It stands on `amo_claims`, `amo_words`,
-//! `amo_kk` and `amo_givens`. The first file is `src/lib.rt`:
+//! `amo_kk` and `amo_params`. The first file is `src/lib.rt`:
 //!
 //! ```rust
 //! #![tactic(auto)]
@@ -73,7 +73,7 @@
 //! ghost use Rattle.amo_claims.specs.Calls.{worker_in};
 //!
 //! use amo_claims::{After, Go, Gone, Ready, Work, begin};
-//! use amo_givens::{Givens, MAX_STEPS};
+//! use amo_params::{Givens, MAX_STEPS};
 //! use amo_words::Floor;
 //! use std::alloc::Global;
 //!

@@ -6,8 +6,8 @@ use Rattle.amo_report.specs.Wanted.{text_of}
 use Rattle.amo_render.specs.declared.writing.ReplayFault.{ReplayFault}
 use Rattle.amo_render.specs.declared.writing.ReplayFault.TheVariants as replay
 use Rattle.amo_render.specs.Written.{Writes, Refuses}
-use Rattle.amo_outcome.specs.declared.started.Started.TheVariants.{All, NotAll}
-use Rattle.amo_outcome.specs.Runs.{WritesRun, RefusesRun}
+use Rattle.amo_run_plan.specs.declared.started.Started.TheVariants.{All, NotAll}
+use Rattle.amo_run_plan.specs.Runs.{WritesRun, RefusesRun}
 use Rattle.amo_cli.specs.Statuses.{Left}
 use Rattle.amo_args.specs.Commands as requests
 use Rattle.amo_args.specs.Commands.{asked_after_name}

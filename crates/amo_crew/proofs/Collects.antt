@@ -17,7 +17,7 @@ use Rattle.amo_sets.specs.Lists.{numbered, put}
 use Rattle.amo_sets.proofs.Numbers.{numbered-put_same, numbered-put_other, length-put}
 use Rattle.amo_kk.specs.Record.{jobs_in_hand}
 use Rattle.amo_kk.specs.Machine.{LocalView}
-use Rattle.amo_givens.specs.declared.givens.Givens.{Givens}
+use Rattle.amo_params.specs.declared.givens.Givens.{Givens}
 use Rattle.amo_words.specs.declared.rule.Spot.{Spot}
 use Rattle.amo_words.specs.declared.rule.Spot.TheVariants.{Home, Back}
 use Rattle.amo_words.specs.Rule.{AllStand}

@@ -8,7 +8,7 @@ use mathlib.Core.Option.{some, some-injective, some-ne-none}
 use lib.ListN.{get_elem?}
 use Rattle.atomic_table.specs.Seated.{TableId}
 use Rattle.amo_sets.specs.Lists.{numbered}
-use Rattle.amo_givens.specs.declared.givens.Givens.{Givens}
+use Rattle.amo_params.specs.declared.givens.Givens.{Givens}
 use Rattle.amo_words.specs.Rule.{AllStand}
 use Rattle.amo_words.specs.Faces.{Seated, machine, spots}
 use Rattle.amo_claims.specs.Calls.{worker_in}

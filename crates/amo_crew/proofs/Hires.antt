@@ -14,8 +14,8 @@ use Rattle.amo_sets.specs.Lists.{numbered, put}
 use Rattle.amo_sets.proofs.Numbers.{numbered-put_same, numbered-put_other, length-put}
 use Rattle.amo_kk.specs.Record.{is_over, wants_nothing, jobs_in_hand, empty_record}
 use Rattle.amo_kk.specs.Choice.{first_record}
-use Rattle.amo_givens.specs.declared.givens.Givens.{Givens}
-use Rattle.amo_givens.specs.declared.limits.TheConstants.{MAX_STEPS}
+use Rattle.amo_params.specs.declared.givens.Givens.{Givens}
+use Rattle.amo_params.specs.declared.limits.TheConstants.{MAX_STEPS}
 use Rattle.amo_kk.specs.declared.model.Record.{Record}
 use Rattle.amo_kk.proofs.Choice.{choice_cases}
 use Rattle.amo_words.specs.declared.rule.Spot.TheVariants.{Home, Out as Away}

@@ -5,7 +5,7 @@ use mathlib.Core.Option.{some}
 use lib.ListN.{get_elem?}
 use Rattle.atomic_table.specs.Seated.{TableId}
 use Rattle.amo_sets.specs.Lists.{numbered}
-use Rattle.amo_givens.specs.declared.givens.Givens.{Givens}
+use Rattle.amo_params.specs.declared.givens.Givens.{Givens}
 use Rattle.amo_words.specs.Faces.{machine}
 use Rattle.amo_claims.specs.Calls.{worker_in}
 use Rattle.amo_mailbox.specs.declared.queue.Queue.{Queue}

@@ -1,8 +1,8 @@
 -- The facts that hold of every outcome.
 use Rattle.std.specs.Prelude.{◌≡◌, ℕ, List, length, All}
 use Rattle.std.proofs.Common.{Vec, Global}
-use Rattle.amo_givens.specs.Givens.{IsJob}
-use Rattle.amo_givens.specs.declared.givens.Givens.{Givens}
+use Rattle.amo_params.specs.Givens.{IsJob}
+use Rattle.amo_params.specs.declared.givens.Givens.{Givens}
 use Rattle.amo_crew.specs.declared.outcome.Outcome.{Outcome}
 
 -- each list has numbers of jobs alone

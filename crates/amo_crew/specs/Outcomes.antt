@@ -4,8 +4,8 @@ use Rattle.amo_sets.specs.Lists.{numbered}
 use Rattle.amo_sets.specs.Sets.{has}
 use Rattle.amo_kk.specs.Record.{jobs_in_hand}
 use Rattle.amo_kk.specs.Machine.{LocalView}
-use Rattle.amo_givens.specs.declared.givens.Givens.{Givens}
-use Rattle.amo_givens.specs.declared.moves.Move.{Move}
+use Rattle.amo_params.specs.declared.givens.Givens.{Givens}
+use Rattle.amo_params.specs.declared.moves.Move.{Move}
 use Rattle.amo_words.specs.declared.rule.Spot.{Spot}
 use Rattle.amo_words.specs.declared.rule.Spot.TheVariants.{Home, Back}
 use Rattle.amo_words.specs.Settling.{IsWhole, settled_claims}

@@ -1,7 +1,7 @@
 -- The refusals of a run.
 use Rattle.std.specs.Prelude.{◌≡◌, ◌≢◌, ℕ, Bool, true, false, List, length}
 use Rattle.std.specs.List.{list_any}
-use Rattle.amo_givens.specs.declared.givens.Givens.{Givens}
+use Rattle.amo_params.specs.declared.givens.Givens.{Givens}
 use Rattle.amo_crew.specs.declared.outcome.End.{End}
 use Rattle.amo_crew.specs.declared.outcome.End.TheVariants.{NotStarted}
 use Rattle.amo_crew.specs.declared.fault.ExecFault.{ExecFault}

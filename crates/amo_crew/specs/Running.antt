@@ -3,8 +3,8 @@ use Rattle.std.specs.Prelude.{◌≡◌, ℕ, ◌-◌, ◌≤◌, true, false, L
 use Rattle.amo_kk.specs.Record.{is_over, wants_nothing, jobs_in_hand}
 use Rattle.amo_kk.specs.declared.model.Record.{Record}
 use Rattle.amo_kk.specs.declared.phase.Phase.{Phase}
-use Rattle.amo_givens.specs.declared.givens.Givens.{Givens}
-use Rattle.amo_givens.specs.declared.limits.TheConstants.{MAX_STEPS}
+use Rattle.amo_params.specs.declared.givens.Givens.{Givens}
+use Rattle.amo_params.specs.declared.limits.TheConstants.{MAX_STEPS}
 use Rattle.atomic_table.specs.Seated.{TableId}
 use Rattle.amo_words.specs.Faces.{Seated, machine}
 use Rattle.amo_claims.specs.Calls.{state_of, worker_in}

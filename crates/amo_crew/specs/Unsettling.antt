@@ -1,7 +1,7 @@
 -- The values that are kept until the final accounting of a run.
 use Rattle.std.specs.Prelude.{◌≡◌, ℕ, List}
-use Rattle.amo_givens.specs.declared.givens.Givens.{Givens}
-use Rattle.amo_givens.specs.declared.moves.Move.{Move}
+use Rattle.amo_params.specs.declared.givens.Givens.{Givens}
+use Rattle.amo_params.specs.declared.moves.Move.{Move}
 use Rattle.amo_words.specs.Faces.{ClosedView}
 use Rattle.amo_words.specs.Settling.{HasClosed, IsReadFrom, IsWholeOf}
 use Rattle.amo_mailbox.specs.declared.output.Output.{Output}

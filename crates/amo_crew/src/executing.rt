@@ -17,7 +17,7 @@ use crate::plan::StopPlan;
 use crate::run::{hire_all, run_all};
 use crate::settle::{Collected, Unsettled, call_off, collect_all, conclude};
 use amo_claims::Work;
-use amo_givens::Givens;
+use amo_params::Givens;
 use amo_words::{Book, Floor, OpenFault};
 use std::alloc::Global;
 use std::sync::Wait;
@@ -113,7 +113,7 @@ where
 ///
 /// ```
 /// use amo_crew::{ExecFault, StopPlan, Work, execute};
-/// use amo_givens::{Givens, MAX_STEPS};
+/// use amo_params::{Givens, MAX_STEPS};
 ///
 /// #[derive(Drop)]
 /// struct Letter(u32); // to a house; it has no Clone, so it is sent at most once

@@ -4,8 +4,8 @@ ghost use Rattle.amo_crew.specs.Kits.{IsKit};
 
 use crate::outcome::End;
 use crate::run::{Finish, Member};
-use amo_givens::Givens;
 use amo_mailbox::{Inlet, Outlet, Queue, outlets};
+use amo_params::Givens;
 use std::alloc::{AllocError, Global};
 
 /// The needs of a run, apart from the shared state and the registry: the queue, and lists with

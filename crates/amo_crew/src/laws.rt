@@ -2,8 +2,8 @@
 //! Call one to use it in your own clauses.
 ghost use Rattle.std.specs.Prelude.{◌≡◌, ◌⊎◌, ℕ, true, false, List, All};
 ghost use Rattle.amo_sets.specs.Sets.{has, AreDistinct};
-ghost use Rattle.amo_givens.specs.Givens.{IsJob, IsWorker};
-ghost use Rattle.amo_givens.specs.declared.givens.Givens.{Givens};
+ghost use Rattle.amo_params.specs.Givens.{IsJob, IsWorker};
+ghost use Rattle.amo_params.specs.declared.givens.Givens.{Givens};
 ghost use Rattle.amo_words.specs.Settling.{settled_dones};
 ghost use Rattle.amo_crew.specs.declared.outcome.Outcome.{Outcome};
 ghost use Rattle.amo_mailbox.specs.declared.output.Output.{Output};

@@ -20,7 +20,7 @@
 //! an answer each in a file of proofs, by `Refuses` or `settled_later`. The field `run.outputs_are`
 //! of `IsOutcome` states that each answer is right for its payload.
 //! The prover accepted this file without a file of proofs (`rattle check`, 2026-11-30). Its crate
-//! stands on `amo_crew`, `amo_mailbox`, `amo_claims`, `amo_words`, `amo_givens` and `amo_sets`.
+//! stands on `amo_crew`, `amo_mailbox`, `amo_claims`, `amo_words`, `amo_params` and `amo_sets`.
 //!
 //! ```rust
 //! #![tactic(auto)]
@@ -28,12 +28,12 @@
 //!
 //! ghost use Rattle.std.specs.Prelude.{◌≡◌, ℕ, IfOk};
 //! ghost use Rattle.amo_sets.specs.Sets.{AreDistinct};
-//! ghost use Rattle.amo_givens.specs.Givens.{IsJob};
+//! ghost use Rattle.amo_params.specs.Givens.{IsJob};
 //! ghost use Rattle.amo_crew.specs.Outcomes.{HasAPlace, answered};
 //!
 //! use amo_crew::laws::{each_job_has_a_place, each_job_is_answered_once};
 //! use amo_crew::{ExecFault, Outcome, StopPlan, Work, execute};
-//! use amo_givens::Givens;
+//! use amo_params::Givens;
 //! use std::alloc::Global;
 //! use std::sync::Wait;
 //! use std::thread::Threads;

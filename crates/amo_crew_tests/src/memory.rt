@@ -2,7 +2,7 @@
 use super::outcomes::{Echo, expect_each_once, payloads_for};
 use super::queues::{put_jobs, take_jobs};
 use amo_crew::{End, ExecFault, StopFault, StopPlan, Unsettled, execute, outlets};
-use amo_givens::Givens;
+use amo_params::Givens;
 use std::alloc::Global;
 use std::process::Abort;
 use std::sync::Wait;

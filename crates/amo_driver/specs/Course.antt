@@ -3,7 +3,7 @@
 -- the job is clear, and the note of the claimed job.
 use Rattle.std.specs.Prelude.{◌≡◌, ⊤, ℕ, zero, suc, ◌+◌, Bool, true, false, List, [], ◌∷◌, Option, Some, None, ◌==◌, if◌then◌else◌}
 use Rattle.amo_kk.specs.Words.{next_word}
-use Rattle.amo_givens.specs.declared.givens.Givens.{Givens}
+use Rattle.amo_params.specs.declared.givens.Givens.{Givens}
 use Rattle.amo_process.specs.Heard.{told_by, doubted_by}
 use Rattle.amo_process.specs.Stepped.{ProcessView, new_process, process_after, access_of, may_leave, is_refused}
 use Rattle.amo_process.specs.declared.access.Access.{Access}

@@ -1,6 +1,6 @@
 //! A process with the part of its journal that it needs, turn by turn.
 ghost use Rattle.std.specs.Prelude.{◌≡◌, ◌<◌, ◌-◌, ◌^◌, false, Ok, None, IfOk, IfErr, OnOk};
-ghost use Rattle.amo_givens.specs.Givens.{IsWorker};
+ghost use Rattle.amo_params.specs.Givens.{IsWorker};
 ghost use Rattle.amo_process.specs.Stepped.{access_of, is_refused};
 ghost use Rattle.amo_process.specs.declared.access.Access.TheVariants.{Load, Store};
 ghost use Rattle.amo_driver.specs.declared.answer.Way.TheVariants.{Go, Leave};
@@ -13,7 +13,7 @@ ghost use Rattle.amo_driver.specs.Life.{IsGoing, HasHeard, TurnsTo};
 use crate::answer::{Heard, JobResult, Reply, Way};
 use crate::outside::Outside;
 use crate::stop::{LifeEnd, Stop};
-use amo_givens::Givens;
+use amo_params::Givens;
 use amo_process::{Access, NoSuchNumber, Process};
 use std::alloc::{AllocError, Global};
 

@@ -1,13 +1,13 @@
 //! The work of a process, from its beginning on.
 ghost use Rattle.std.specs.Prelude.{IfOk, IfErr};
-ghost use Rattle.amo_givens.specs.Givens.{IsWorker};
+ghost use Rattle.amo_params.specs.Givens.{IsWorker};
 ghost use Rattle.amo_driver.specs.Course.{first_stage};
 ghost use Rattle.amo_driver.specs.Stops.{EndsAt, StopsAt};
 
 use crate::life::Life;
 use crate::outside::Outside;
 use crate::stop::{LifeEnd, Stop};
-use amo_givens::Givens;
+use amo_params::Givens;
 use std::alloc::Global;
 
 /// Does the whole work of a process that begins as worker p, in whose journal the next intent has

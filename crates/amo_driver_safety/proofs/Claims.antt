@@ -8,13 +8,13 @@ use Rattle.amo_sets.specs.Sets.{has}
 use Rattle.amo_sets.proofs.Numbers.{has_push, has_push_kept}
 use Rattle.amo_kk.specs.Again.{entries_of, are_own_words, record_again}
 use Rattle.amo_kk.specs.Alone.{is_claiming}
-use Rattle.amo_givens.specs.Givens.{IsWorker}
+use Rattle.amo_params.specs.Givens.{IsWorker}
 use Rattle.amo_kk.specs.Lawful.{FitsPhase}
 use Rattle.amo_kk.specs.Machine.{LocalView}
 use Rattle.amo_kk.specs.Record.{job_in_hand, jobs_in_hand}
 use Rattle.amo_kk.specs.Step.{want, want_in, record_after, record_after_phase}
 use Rattle.amo_kk.specs.Words.{claim_word, done_word}
-use Rattle.amo_givens.specs.declared.givens.Givens.{Givens}
+use Rattle.amo_params.specs.declared.givens.Givens.{Givens}
 use Rattle.amo_kk.specs.declared.model.Record.{Record}
 use Rattle.amo_kk.specs.declared.phase.Phase.{Phase}
 use Rattle.amo_kk.specs.declared.phase.Phase.TheVariants.{Claiming, Holding}

@@ -7,7 +7,7 @@ use Rattle.std.proofs.lemmas.Bool.{true≢false, eqb-true, eq-eqb}
 use Rattle.std.proofs.lemmas.Option.{none-some}
 use Rattle.amo_kk.specs.Step.{want_in}
 use Rattle.amo_kk.specs.Words.{claim_word}
-use Rattle.amo_givens.specs.declared.givens.Givens.{Givens}
+use Rattle.amo_params.specs.declared.givens.Givens.{Givens}
 use Rattle.amo_process.specs.Heard.{told_by, doubted_by}
 use Rattle.amo_process.specs.Stepped.{ProcessView, process_after, access_of, may_leave, is_refused}
 use Rattle.amo_driver.specs.declared.answer.JobResult.{JobResult}

@@ -2,9 +2,9 @@
 -- and the next one of its worker in a store that comes about. In another one a job is found taken,
 -- and filed, and the other job is performed.
 use Rattle.std.proofs.Common.{◌≡◌, true, false, refl, arith, List, [], ◌∷◌, ◌++◌}
-use Rattle.amo_givens.specs.Givens.{IsWorker}
-use Rattle.amo_givens.specs.Limits.{within_limits}
-use Rattle.amo_givens.specs.declared.givens.Givens.{Givens}
+use Rattle.amo_params.specs.Givens.{IsWorker}
+use Rattle.amo_params.specs.Limits.{within_limits}
+use Rattle.amo_params.specs.declared.givens.Givens.{Givens}
 use Rattle.amo_driver.specs.declared.answer.JobResult.TheVariants.{Done, Unbegun}
 use Rattle.amo_driver.specs.declared.answer.Reply.TheVariants.{Answered}
 use Rattle.amo_driver.specs.declared.answer.Way.TheVariants.{Go}

@@ -8,7 +8,7 @@ use Rattle.amo_kk.specs.Machine.{LocalView}
 use Rattle.amo_kk.specs.Record.{can_leave}
 use Rattle.amo_kk.specs.Step.{want, want_in, record_after, record_after_phase}
 use Rattle.amo_kk.specs.Words.{next_word, done_word}
-use Rattle.amo_givens.specs.declared.givens.Givens.{Givens}
+use Rattle.amo_params.specs.declared.givens.Givens.{Givens}
 use Rattle.amo_kk.specs.declared.model.Record.{Record}
 use Rattle.amo_kk.specs.declared.phase.Phase.TheVariants.{Holding, Over}
 use Rattle.amo_kk.proofs.Choice.{choice_cases}

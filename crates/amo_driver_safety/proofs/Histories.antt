@@ -5,9 +5,9 @@ use Rattle.std.proofs.lemmas.Bool.{true≢false, cases_eq}
 use Rattle.amo_sets.specs.Lists.{numbered, put}
 use Rattle.amo_sets.proofs.Numbers.{numbered-put_same, numbered-put_other, length-put, length-table}
 use Rattle.amo_sets.proofs.Tables.{numbered-table}
-use Rattle.amo_givens.specs.Givens.{IsWorker}
+use Rattle.amo_params.specs.Givens.{IsWorker}
 use Rattle.amo_kk.specs.Words.{next_word}
-use Rattle.amo_givens.specs.declared.givens.Givens.{Givens}
+use Rattle.amo_params.specs.declared.givens.Givens.{Givens}
 use Rattle.amo_process.specs.Heard.{standing_of}
 use Rattle.amo_process.specs.Stepped.{ProcessView, process_after, access_of, may_leave}
 use Rattle.amo_process.specs.Shared.{Shared, first_shared, with_new_process, shared_after_leave, shared_after_access, shared_after, shared_after_all, shared_of, AreOfWorkers, HasNoStep}

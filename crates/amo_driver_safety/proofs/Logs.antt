@@ -6,8 +6,8 @@ use Rattle.std.proofs.lemmas.Option.{none-some}
 use Rattle.amo_sets.specs.Lists.{numbered, put}
 use Rattle.amo_sets.proofs.Numbers.{numbered-put_same, numbered-put_other, length-put, length-table}
 use Rattle.amo_sets.proofs.Tables.{numbered-table}
-use Rattle.amo_givens.specs.Givens.{IsWorker}
-use Rattle.amo_givens.specs.declared.givens.Givens.{Givens}
+use Rattle.amo_params.specs.Givens.{IsWorker}
+use Rattle.amo_params.specs.declared.givens.Givens.{Givens}
 use Rattle.amo_driver.specs.declared.model.Deed.{Deed}
 use Rattle.amo_driver.specs.declared.model.Deed.TheVariants.{Fell}
 use Rattle.amo_driver.specs.declared.model.Try.{Try}

@@ -4,8 +4,8 @@ use Rattle.std.proofs.lemmas.Bool.{ne_eqb, cases_eq, or_from}
 use Rattle.std.proofs.lemmas.Option.{none-some}
 use Rattle.amo_sets.specs.Sets.{has, AreDistinct}
 use Rattle.amo_sets.proofs.Numbers.{has-append}
-use Rattle.amo_givens.specs.Givens.{IsWorker}
-use Rattle.amo_givens.specs.declared.givens.Givens.{Givens}
+use Rattle.amo_params.specs.Givens.{IsWorker}
+use Rattle.amo_params.specs.declared.givens.Givens.{Givens}
 use Rattle.amo_process.specs.Shared.{first_shared, shared_of, told_to_perform, AreOfWorkers}
 use Rattle.amo_process.specs.declared.model.Happening.{Happening}
 use Rattle.amo_driver.specs.declared.model.Try.{Try}

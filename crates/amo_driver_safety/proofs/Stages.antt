@@ -3,7 +3,7 @@ use Rattle.std.proofs.Common.{◌≡◌, ◌⊎◌, inl, inr, ℕ, zero, suc, �
 use Rattle.std.specs.Prelude.{⊤, if◌then◌else◌, ◌==◌}
 use Rattle.std.proofs.lemmas.Bool.{true≢false}
 use Rattle.amo_kk.specs.Words.{next_word}
-use Rattle.amo_givens.specs.declared.givens.Givens.{Givens}
+use Rattle.amo_params.specs.declared.givens.Givens.{Givens}
 use Rattle.amo_process.specs.Heard.{standing_of, told_by, doubted_by}
 use Rattle.amo_process.specs.Stepped.{ProcessView, new_process, process_after, process_after_all, access_of, may_leave, is_refused}
 use Rattle.amo_process.specs.declared.access.Access.{Access}

@@ -4,7 +4,7 @@ use Rattle.std.specs.List.{flat_map}
 use Rattle.amo_kk.specs.Machine.{LocalView}
 use Rattle.amo_kk.specs.Step.{want}
 use Rattle.amo_kk.specs.Words.{next_word, claim_word, done_word}
-use Rattle.amo_givens.specs.declared.givens.Givens.{Givens}
+use Rattle.amo_params.specs.declared.givens.Givens.{Givens}
 use Rattle.amo_kk.specs.declared.phase.Want.TheVariants.{StoreClaim, StoreDone}
 use Rattle.amo_process.specs.Heard.{told_by}
 use Rattle.amo_process.specs.Stepped.{ProcessView, process_after}

@@ -1,8 +1,8 @@
 -- Processes over one list of shared words, each doing what is due at its stage.
 use Rattle.std.specs.Prelude.{◌≡◌, ⊤, ℕ, List, [], ◌∷◌, ◌++◌, Some, set, slice_index, replicate}
 use Rattle.amo_sets.specs.Lists.{numbered, put, table}
-use Rattle.amo_givens.specs.Givens.{IsWorker}
-use Rattle.amo_givens.specs.declared.givens.Givens.{Givens}
+use Rattle.amo_params.specs.Givens.{IsWorker}
+use Rattle.amo_params.specs.declared.givens.Givens.{Givens}
 use Rattle.amo_kk.specs.Words.{word_count}
 use Rattle.amo_driver.specs.declared.model.Deed.{Deed}
 use Rattle.amo_driver.specs.declared.model.Deed.TheVariants.{Loaded, Stored}

@@ -1,8 +1,8 @@
 //! The theorems over the definitions. Nothing here runs: each function's contract is a law.
 ghost use Rattle.std.specs.Prelude.{◌≡◌, ◌⊎◌, ℕ, true, false, List, [], ◌∷◌, ◌++◌, Some, None};
 ghost use Rattle.amo_sets.specs.Sets.{has, AreDistinct};
-ghost use Rattle.amo_givens.specs.Givens.{IsWorker};
-ghost use Rattle.amo_givens.specs.declared.givens.Givens.{Givens};
+ghost use Rattle.amo_params.specs.Givens.{IsWorker};
+ghost use Rattle.amo_params.specs.declared.givens.Givens.{Givens};
 ghost use Rattle.amo_driver.specs.declared.answer.JobResult.{JobResult};
 ghost use Rattle.amo_driver.specs.declared.answer.Reply.{Reply};
 ghost use Rattle.amo_driver.specs.Course.{try_of, due, stage_after_all, AreDue, first_stage};

@@ -6,8 +6,8 @@ ghost use Rattle.std.specs.Prelude.{⊤};
 use amo_driver::{
     Failed, Intent, JobResult as Became, Outside, Past, Reply, Way, ask_pending, work,
 };
-use amo_givens::Givens;
 use amo_journal::{Checksum, Journal, read_log};
+use amo_params::Givens;
 use amo_run_files::givens_of;
 use amo_run_log::{
     Append, Attempt, Entry, Outcome, append_entries, open_lines, pending, read_attempts,

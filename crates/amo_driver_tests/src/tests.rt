@@ -2,7 +2,7 @@
 ghost use Rattle.std.specs.Prelude.{⊤};
 
 use amo_driver::{Failed, JobResult, LifeEnd, Outside, Reply, Stop, Way, work};
-use amo_givens::Givens;
+use amo_params::Givens;
 
 /// Returns the job of this intent has ended with code 7.
 fn done(serial: u64) -> Reply {

@@ -1,8 +1,8 @@
 -- The sorted jobs of a round.
 use Rattle.std.proofs.Common.{◌≡◌, ℕ, List, length, replicate, Ok, Err, IfOk, IfErr, subst, sym}
 use Rattle.std.specs.Prelude.{Result}
-use Rattle.amo_givens.specs.Givens.{givens_of}
-use Rattle.amo_givens.specs.declared.givens.Givens.{Givens}
+use Rattle.amo_params.specs.Givens.{givens_of}
+use Rattle.amo_params.specs.declared.givens.Givens.{Givens}
 use Rattle.amo_crew.specs.declared.outcome.Outcome.{Outcome}
 use Rattle.amo_crew.specs.Outcomes.{IsOutcome}
 use Rattle.amo_crew.specs.Unsettling.{IsUnsettled}

@@ -7,7 +7,7 @@ use Rattle.amo_sets.specs.Sets.{has, AreDistinct}
 use Rattle.amo_kk.specs.World.{nobody, world_of}
 use Rattle.amo_kk.specs.Lawful.{IsSoundRecord}
 use Rattle.amo_kk.specs.Machine.{LocalView}
-use Rattle.amo_givens.specs.declared.givens.Givens.{Givens}
+use Rattle.amo_params.specs.declared.givens.Givens.{Givens}
 use Rattle.amo_kk.specs.declared.model.Process.{Process}
 use Rattle.amo_words.specs.declared.rule.Spot.TheVariants.{Home, Out as Away, Back}
 use Rattle.amo_words.specs.declared.floor.settling.Settlement.{Settlement}

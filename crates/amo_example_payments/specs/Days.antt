@@ -9,7 +9,7 @@ use Rattle.amo_example_payments.specs.declared.day.payment.Payment.{Payment}
 use Rattle.amo_example_payments.specs.declared.rounds.Crew.{Crew}
 use Rattle.amo_example_payments.specs.Lines.{line_in}
 use Rattle.amo_example_payments.specs.Sorting.{ids_of}
-use Rattle.amo_givens.specs.declared.limits.TheConstants.{MAX_STEPS}
+use Rattle.amo_params.specs.declared.limits.TheConstants.{MAX_STEPS}
 
 -- the payments that a line adds, the next number being id
 abbrev pub payments_in : ℕ → Line → List Payment

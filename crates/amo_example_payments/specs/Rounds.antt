@@ -1,7 +1,7 @@
 -- Payments that go in rounds.
 use Rattle.std.specs.Prelude.{◌≡◌, ℕ, Bool, true, ◌&&◌, List, length, replicate, nat_le, Ok}
-use Rattle.amo_givens.specs.Givens.{givens_of}
-use Rattle.amo_givens.specs.declared.givens.Givens.{Givens}
+use Rattle.amo_params.specs.Givens.{givens_of}
+use Rattle.amo_params.specs.declared.givens.Givens.{Givens}
 use Rattle.amo_crew.specs.declared.outcome.Outcome.{Outcome}
 use Rattle.amo_crew.specs.Outcomes.{IsOutcome}
 use Rattle.amo_crew.specs.Unsettling.{IsUnsettled}
@@ -13,7 +13,7 @@ use Rattle.amo_example_payments.specs.declared.rounds.RoundFault.{RoundFault}
 use Rattle.amo_example_payments.specs.declared.rounds.RoundFault.TheVariants.{Unpaid, Unsettled, Unsorted}
 use Rattle.amo_example_payments.specs.Payments.{Answers}
 use Rattle.amo_example_payments.specs.Sorting.{has_job, ids_of, IsSorted, IsSortingOf, MayBeUnsure}
-use Rattle.amo_givens.specs.declared.limits.TheConstants.{MAX_WORKERS, MAX_STEPS}
+use Rattle.amo_params.specs.declared.limits.TheConstants.{MAX_WORKERS, MAX_STEPS}
 
 -- the crew is from 1 to 16 workers, and each takes at most 10,000,000 steps
 abbrev pub is_fit : Crew → Bool

@@ -10,7 +10,7 @@ ghost use Rattle.amo_example_payments.specs.declared.fault.Fault.TheVariants.{Li
 use crate::fault::Fault;
 use crate::line::{Line, line_of};
 use crate::rounds::Crew;
-use amo_givens::MAX_STEPS;
+use amo_params::MAX_STEPS;
 use std::alloc::{AllocError, Global};
 use std::io::Read;
 

@@ -1,7 +1,7 @@
 //! Rounds of payments, since a floor has at most 4096 jobs.
 ghost use Rattle.std.specs.Prelude.{◌≡◌, ◌≤◌, ◌++◌, ℕ, List, Ok, length, min, map, replicate, vec_len, IfOk, IfErr, IfSome, OnOk, OnErr};
-ghost use Rattle.amo_givens.specs.Givens.{givens_of};
-ghost use Rattle.amo_givens.specs.declared.givens.Givens.{Givens as GivensView};
+ghost use Rattle.amo_params.specs.Givens.{givens_of};
+ghost use Rattle.amo_params.specs.declared.givens.Givens.{Givens as GivensView};
 ghost use Rattle.amo_crew.specs.Outcomes.{IsOutcome};
 ghost use Rattle.amo_crew.specs.Unsettling.{IsUnsettled};
 ghost use Rattle.amo_example_payments.specs.declared.day.payment.Payment.{Payment as PaymentView};
@@ -9,15 +9,15 @@ ghost use Rattle.amo_example_payments.specs.Payments.{Answers};
 ghost use Rattle.amo_example_payments.specs.Sorting.{ids_of, IsSorted, IsSortingOf};
 ghost use Rattle.amo_example_payments.specs.Rounds.{is_fit, IsRound, IsRunFault, IsRoundFault};
 ghost use Rattle.amo_example_payments.specs.declared.rounds.RoundFault.TheVariants.{Unsettled as UnsettledRound, Unsorted};
-ghost use Rattle.amo_givens.specs.declared.limits.TheConstants.{MAX_JOBS};
+ghost use Rattle.amo_params.specs.declared.limits.TheConstants.{MAX_JOBS};
 
 use crate::bank::{Bank, BankReply};
 use crate::day::Payment;
 use crate::sorting::{Sorted, sort_out};
 use amo_crew::laws::settled_later;
 use amo_crew::{ExecFault, Outcome, StopPlan, Unsettled, execute};
-use amo_givens::{Givens, MAX_JOBS, MAX_STEPS, MAX_WORKERS};
 use amo_journal::Device;
+use amo_params::{Givens, MAX_JOBS, MAX_STEPS, MAX_WORKERS};
 use std::alloc::{AllocError, Global};
 use std::io::Write;
 use std::mem;

@@ -3,11 +3,11 @@ ghost use Rattle.std.specs.Prelude.{◌≡◌, ◌≤◌, [], length, replicate,
 ghost use Rattle.amo_words.specs.Faces.{spots};
 ghost use Rattle.amo_words.specs.declared.rule.Spot.TheVariants.{Home};
 ghost use Rattle.amo_example_payments.specs.Second.{IsLeftover, IsLeftoverFault};
-ghost use Rattle.amo_givens.specs.declared.limits.TheConstants.{MAX_JOBS};
+ghost use Rattle.amo_params.specs.declared.limits.TheConstants.{MAX_JOBS};
 
 use crate::stopping::run_until;
 use amo_crew::{Output, Work};
-use amo_givens::Givens;
+use amo_params::Givens;
 use amo_words::{Book, Floor, OpenFault};
 use std::alloc::Global;
 use std::sync::atomic::AtomicBool;

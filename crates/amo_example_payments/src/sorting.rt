@@ -3,12 +3,12 @@ ghost use Rattle.std.specs.Prelude.{◌≡◌, ◌==◌, ◌<◌, ◌≤◌, ◌
 ghost use Rattle.std.specs.BTreeSet.{contains};
 ghost use Rattle.std.specs.List.{enumerate_from};
 ghost use Rattle.std.specs.Ordering.{nat_cmp};
-ghost use Rattle.amo_givens.specs.declared.givens.Givens.{Givens as GivensView};
+ghost use Rattle.amo_params.specs.declared.givens.Givens.{Givens as GivensView};
 ghost use Rattle.amo_crew.specs.Outcomes.{IsOutcome};
 ghost use Rattle.amo_example_payments.specs.Payments.{Answers};
 ghost use Rattle.amo_example_payments.specs.Sorting.{is_paid, has_receipt_of, has_job, ids_of, IsSorted, IsSortingOf};
 ghost use Rattle.amo_example_payments.specs.declared.day.payment.Payment.{Payment as PaymentView};
-ghost use Rattle.amo_givens.specs.declared.limits.TheConstants.{MAX_JOBS};
+ghost use Rattle.amo_params.specs.declared.limits.TheConstants.{MAX_JOBS};
 
 use crate::bank::BankReply;
 use crate::day::Payment;

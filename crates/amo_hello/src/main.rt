@@ -5,7 +5,7 @@ ghost use Rattle.std.specs.Prelude.{◌≡◌, IfSome, map};
 ghost use Rattle.amo_sets.specs.Sets.{AreDistinct};
 
 use amo_crew::{ExecFault, StopPlan, Work, execute, laws};
-use amo_givens::{Givens, MAX_STEPS};
+use amo_params::{Givens, MAX_STEPS};
 use std::sync::Wait;
 use std::thread::Threads;
 

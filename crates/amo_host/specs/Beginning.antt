@@ -1,7 +1,7 @@
 -- How a process begins a round: under the lock of the round, which it has alone, it reads all that
 -- there is, and makes the round's files.
 use Rattle.std.specs.Prelude.{◌≡◌, ◌⊎◌, ℕ, ◌+◌, ◌-◌, ◌^◌, ◌==◌, List, [], ◌∷◌, ◌++◌, length, replicate, take, Option, Some, None, if◌then◌else◌}
-use Rattle.amo_givens.specs.declared.limits.TheConstants.{MAX_JOBS}
+use Rattle.amo_params.specs.declared.limits.TheConstants.{MAX_JOBS}
 use Rattle.amo_run_files.specs.declared.extent.Extent.{Extent}
 use Rattle.amo_run_files.specs.declared.header.RoundHeader.{RoundHeader}
 use Rattle.amo_run_files.specs.declared.round_file.RoundFile.{RoundFile}

@@ -2,9 +2,9 @@
 -- file and opens its registers.
 use Rattle.std.specs.Prelude.{◌≡◌, ◌⊎◌, ℕ, ◌==◌, ◌&&◌, Bool, true, false, List, [], length, Option, Some, None, Result, Ok, Err}
 use Rattle.std.specs.Str.{bytes_eq}
-use Rattle.amo_givens.specs.declared.givens.Givens.{Givens}
-use Rattle.amo_givens.specs.declared.givens.GivensFault.{GivensFault}
-use Rattle.amo_givens.specs.Givens.{givens_of}
+use Rattle.amo_params.specs.declared.givens.Givens.{Givens}
+use Rattle.amo_params.specs.declared.givens.GivensFault.{GivensFault}
+use Rattle.amo_params.specs.Givens.{givens_of}
 use Rattle.amo_run_files.specs.declared.header.RoundHeader.{RoundHeader}
 use Rattle.amo_run_files.specs.declared.round_file.RoundFile.{RoundFile}
 use Rattle.amo_run_files.specs.Heads.{head_of}

@@ -1,6 +1,6 @@
 -- The phases of a process of the run, between two calls.
 use Rattle.std.specs.Prelude.{ℕ, Bool, List, Option}
-use Rattle.amo_givens.specs.declared.givens.Givens.{Givens}
+use Rattle.amo_params.specs.declared.givens.Givens.{Givens}
 use Rattle.amo_driver.specs.Stage.{Stage}
 use Rattle.amo_process.specs.Stepped.{ProcessView}
 use Rattle.amo_run_files.specs.declared.extent.Extent.{Extent}

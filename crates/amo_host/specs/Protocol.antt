@@ -1,7 +1,7 @@
 -- The protocol of a run: the calls that each phase of a process allows, and the phase after each
 -- call.
 use Rattle.std.specs.Prelude.{◌≡◌, ◌⊎◌, ℕ, zero, suc, Bool, true, false, List, [], ◌∷◌, Option, Some, None, slice_get}
-use Rattle.amo_givens.specs.declared.limits.TheConstants.{MAX_WORKERS}
+use Rattle.amo_params.specs.declared.limits.TheConstants.{MAX_WORKERS}
 use Rattle.amo_process.specs.Stepped.{ProcessView}
 use Rattle.amo_driver.specs.declared.answer.JobResult.{JobResult}
 use Rattle.amo_driver.specs.declared.answer.JobResult.TheVariants.{Done, Doubt, Unbegun, Untouched}
@@ -13,9 +13,9 @@ use Rattle.amo_driver.specs.Course.{due, stage_after, stage_cleared}
 use Rattle.amo_driver.specs.Stage.{Stage, Asking, Clearing, Broken}
 use Rattle.amo_driver.specs.declared.answer.Way.{Way}
 use Rattle.amo_driver.specs.declared.answer.Way.TheVariants.{Go, Leave}
-use Rattle.amo_protocol.specs.Lines.{reply_heard}
-use Rattle.amo_protocol.specs.Replies.{way_in}
-use Rattle.amo_protocol.specs.Sayings.{over_text, perform_text, was_text}
+use Rattle.amo_runner_protocol.specs.Lines.{reply_heard}
+use Rattle.amo_runner_protocol.specs.Replies.{way_in}
+use Rattle.amo_runner_protocol.specs.Sayings.{over_text, perform_text, was_text}
 use Rattle.amo_run_files.specs.Jobs.{line_of}
 use Rattle.amo_run_log.specs.declared.entry.Entry.{Entry}
 use Rattle.amo_run_log.specs.declared.entry.Entry.TheVariants.{Intent, Answer as Answered}

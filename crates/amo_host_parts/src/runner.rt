@@ -1,6 +1,6 @@
 //! The runner, which starts the commands: the worker speaks with it by standard input and output.
-use amo_protocol::whole_line;
 use amo_run_faults::Fault;
+use amo_runner_protocol::whole_line;
 use std::alloc::AllocError;
 use std::io;
 use std::io::{BufRead, Input, Write};

@@ -6,7 +6,7 @@ use Rattle.std.proofs.lemmas.Bool.Decides.{nat_tests}
 use Rattle.amo_kk.specs.Object.{first_object, is_step, object_after}
 use Rattle.amo_kk.specs.Run.{object_after_all, IsRun, first_bad}
 use Rattle.amo_kk.specs.declared.event.Event.{Event}
-use Rattle.amo_givens.specs.declared.givens.Givens.{Givens}
+use Rattle.amo_params.specs.declared.givens.Givens.{Givens}
 use Rattle.amo_kk.specs.declared.model.Object.{Object}
 use Rattle.amo_kk.proofs.Claims.{first_bad_run, run_first_bad, first_bad_is}
 use Rattle.amo_world.specs.Answer.{verdict}

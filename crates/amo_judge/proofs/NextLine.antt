@@ -1,7 +1,7 @@
 -- One line more of a history.
 use Rattle.std.proofs.Common.{◌≡◌, ℕ, ◌+◌, ◌<◌, ◌≤◌, List, [], ◌∷◌, length, map, drop, drop-cons, get_or, Bor, Option, None, Result, Ok, Err, refl, sym, ap, ◌∙◌, arith, add-one, length-append}
 use Rattle.amo_kk.specs.declared.event.Event.{Event}
-use Rattle.amo_givens.specs.declared.givens.Givens.{Givens}
+use Rattle.amo_params.specs.declared.givens.Givens.{Givens}
 use Rattle.amo_kk.specs.declared.model.Object.{Object}
 use Rattle.amo_kk.specs.Run.{IsFirstBad}
 use Rattle.amo_judge.specs.History.{HistoryView, event_in, with_event, with_line, on_line, with_lines}

@@ -4,12 +4,12 @@ use Rattle.std.specs.Prelude.{option_map, ⊤}
 use Rattle.std.specs.Option.{is_some, option_or}
 use Rattle.std.proofs.lemmas.Bool.{cond_both}
 use Rattle.amo_sets.specs.Lists.{numbered}
-use Rattle.amo_givens.specs.Givens.{bound, IsJob, IsWorker, is_within}
+use Rattle.amo_params.specs.Givens.{bound, IsJob, IsWorker, is_within}
 use Rattle.amo_kk.specs.Object.{first_object, is_here, has_in_hand}
 use Rattle.amo_kk.specs.Run.{object_after_all, done_jobs}
 use Rattle.amo_kk.specs.declared.event.Event.{Event}
 use Rattle.amo_kk.specs.declared.event.Event.TheVariants.{Claimed, Done, Ended, Halted, Left}
-use Rattle.amo_givens.specs.declared.givens.Givens.{Givens}
+use Rattle.amo_params.specs.declared.givens.Givens.{Givens}
 use Rattle.amo_kk.proofs.Again.{within_job}
 use Rattle.amo_judge.specs.Telling.{worker_of}
 use Rattle.amo_judge.specs.Why.{end_of, claim_of, hand_of, gone_reason, hand_reason, claim_reason, reason_here, reason_of}

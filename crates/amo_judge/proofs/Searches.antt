@@ -8,12 +8,12 @@ use Rattle.amo_sets.specs.Sets.{has}
 use Rattle.amo_sets.proofs.Numbers.{numbered-put_same, numbered-put_other, length-put, length-table}
 use Rattle.amo_sets.proofs.Removed.{has-without}
 use Rattle.amo_sets.proofs.Tables.{numbered-table, has-numbers}
-use Rattle.amo_givens.specs.Givens.{IsJob, IsWorker}
+use Rattle.amo_params.specs.Givens.{IsJob, IsWorker}
 use Rattle.amo_kk.specs.Object.{first_object, object_after}
 use Rattle.amo_kk.specs.Run.{object_after_all, done_jobs}
 use Rattle.amo_kk.specs.declared.event.Event.{Event}
 use Rattle.amo_kk.specs.declared.event.Event.TheVariants.{Claimed, Done, Ended, Halted, Left}
-use Rattle.amo_givens.specs.declared.givens.Givens.{Givens}
+use Rattle.amo_params.specs.declared.givens.Givens.{Givens}
 use Rattle.amo_kk.specs.declared.model.Object.{Object}
 use Rattle.amo_judge.specs.Why.{is_end_of, is_claim_of, first_from, hand_from, hand_job, end_of, claim_of, hand_of}
 

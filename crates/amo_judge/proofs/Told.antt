@@ -5,12 +5,12 @@ use Rattle.std.specs.Option.{is_some, option_or}
 use Rattle.std.proofs.lemmas.Bool.{true≢false, and_from, cond_both, le-leb, leb-false, eqb-true, eqb-false}
 use Rattle.std.proofs.lemmas.Option.{none-some, same_Some, some_pair_parts}
 use Rattle.amo_sets.specs.Lists.{numbered}
-use Rattle.amo_givens.specs.Givens.{bound, IsJob, IsWorker, is_within}
+use Rattle.amo_params.specs.Givens.{bound, IsJob, IsWorker, is_within}
 use Rattle.amo_kk.specs.Object.{first_object, is_step, has_in_hand}
 use Rattle.amo_kk.specs.Run.{object_after_all, done_jobs}
 use Rattle.amo_kk.specs.declared.event.Event.{Event}
 use Rattle.amo_kk.specs.declared.event.Event.TheVariants.{Claimed, Done, Ended, Halted, Left}
-use Rattle.amo_givens.specs.declared.givens.Givens.{Givens}
+use Rattle.amo_params.specs.declared.givens.Givens.{Givens}
 use Rattle.amo_judge.specs.Judgement.{judgement, unlawful_lines}
 use Rattle.amo_judge.specs.Places.{event_at}
 use Rattle.amo_judge.specs.Results.{found_or}

@@ -1,9 +1,9 @@
 -- The first line of a history: its givens, and whether there are names.
 use Rattle.std.specs.Prelude.{ℕ, Bool, true, false, ◌&&◌, nat_le, ◌==◌, if◌then◌else◌, List, codes, length, drop, Result, Ok, Err}
 use Rattle.std.specs.Option.{is_some, ok_or}
-use Rattle.amo_givens.specs.Givens.{givens_of, bound}
-use Rattle.amo_givens.specs.declared.givens.Givens.{Givens}
-use Rattle.amo_givens.specs.declared.givens.GivensFault.{GivensFault}
+use Rattle.amo_params.specs.Givens.{givens_of, bound}
+use Rattle.amo_params.specs.declared.givens.Givens.{Givens}
+use Rattle.amo_params.specs.declared.givens.GivensFault.{GivensFault}
 use Rattle.amo_decimal.specs.Numbers.{number_in}
 use Rattle.amo_judge.specs.Lines.{word_at, says_at}
 use Rattle.amo_judge.specs.Results.{next}

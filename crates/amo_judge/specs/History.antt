@@ -3,7 +3,7 @@ use Rattle.std.specs.Prelude.{ℕ, ◌+◌, Bool, ◌&&◌, ◌==◌, if◌then�
 use Rattle.std.specs.Option.{ok_or}
 use Rattle.amo_kk.specs.declared.event.Event.{Event}
 use Rattle.amo_kk.specs.declared.event.Event.TheVariants.{Claimed, Done, Ended, Halted, Left}
-use Rattle.amo_givens.specs.declared.givens.Givens.{Givens}
+use Rattle.amo_params.specs.declared.givens.Givens.{Givens}
 use Rattle.amo_decimal.specs.Numbers.{number_in}
 use Rattle.amo_judge.specs.FirstLine.{opening_in}
 use Rattle.amo_judge.specs.Lines.{words_of, word_at, says_at, told}

@@ -7,7 +7,7 @@ ghost use Rattle.amo_judge.specs.FirstLine.{numbers_of, with_bound, ending_of, h
 use crate::lines::says_at;
 use crate::refusal::Wrong;
 use amo_decimal::number_of_bytes;
-use amo_givens::Givens;
+use amo_params::Givens;
 
 /// The content of a first line.
 #[derive(Clone, Copy, Debug, PartialEq, Eq)]

@@ -8,8 +8,8 @@ use crate::lines::{says_at, words_of};
 use crate::refusal::Wrong;
 use crate::roll::Roll;
 use amo_decimal::number_of_bytes;
-use amo_givens::Givens;
 use amo_kk::Event;
+use amo_params::Givens;
 use std::alloc::{AllocError, Global};
 use std::marker::Model;
 

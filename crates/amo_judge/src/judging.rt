@@ -11,8 +11,8 @@ use crate::reading::read_history;
 use crate::reasons::why_of;
 use crate::refusal::{Refusal, Wrong};
 use crate::telling::{event_text, lawful_text, worker_of};
-use amo_givens::{GivensFault, MAX_BETA, MAX_JOBS, MAX_TEXT, MAX_WORKERS};
 use amo_kk::Event;
+use amo_params::{GivensFault, MAX_BETA, MAX_JOBS, MAX_TEXT, MAX_WORKERS};
 use amo_world::{Verdict, judge};
 use std::alloc::{AllocError, Global};
 

@@ -1,13 +1,13 @@
 //! The reasons that an event is no step.
 ghost use Rattle.std.specs.Prelude.{◌≡◌, IfOk, string_bytes};
-ghost use Rattle.amo_givens.specs.Givens.{is_within};
+ghost use Rattle.amo_params.specs.Givens.{is_within};
 ghost use Rattle.amo_judge.specs.Why.{gone_words, gone_reason, hand_reason, claim_reason, reason_here, reason_of, not_in_hand_text, claimed_text, early_text, reason_text, why_of};
 
 use crate::before::{claim_of, end_of, hand_of, performed};
 use crate::history::History;
 use crate::telling::worker_of;
-use amo_givens::Givens;
 use amo_kk::Event;
+use amo_params::Givens;
 use std::alloc::{AllocError, Global};
 
 /// The reason that an event is no step after those before it.

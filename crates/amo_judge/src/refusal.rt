@@ -1,6 +1,6 @@
 //! The faults of a text that isn't a history.
 
-use amo_givens::GivensFault;
+use amo_params::GivensFault;
 
 /// The fault of a line.
 #[derive(Clone, Copy, Debug, PartialEq, Eq)]

@@ -4,9 +4,9 @@ use Rattle.std.specs.Prelude.{nat_le, ◌==◌}
 use Rattle.std.proofs.lemmas.Bool.{true≢false, and_parts, or_cases, eqb-true, leb-true}
 use Rattle.amo_sets.specs.Sets.{has, AreDistinct, with_number}
 use Rattle.amo_sets.proofs.Numbers.{has-with_number, has_with_none, has_with_same, length_distinct, count_le_all}
-use Rattle.amo_givens.specs.Givens.{IsJob, is_within}
+use Rattle.amo_params.specs.Givens.{IsJob, is_within}
 use Rattle.amo_kk.specs.Again.{learned, set_of, are_new}
-use Rattle.amo_givens.specs.declared.givens.Givens.{Givens}
+use Rattle.amo_params.specs.declared.givens.Givens.{Givens}
 
 pub has-learned : (known xs : List ℕ) (j : ℕ) → has (learned known xs) j ≡ (has known j || has xs j)
 has-learned known [] j = step (has known j)

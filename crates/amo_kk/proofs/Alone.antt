@@ -6,14 +6,14 @@ use Rattle.std.proofs.lemmas.Bool.{cases_eq, cases_lt, true≢false, false_from_
 use Rattle.amo_sets.specs.Lists.{numbered, put}
 use Rattle.amo_sets.specs.Sets.{has, with_number}
 use Rattle.amo_sets.specs.Rank.{count}
-use Rattle.amo_givens.specs.Givens.{AreGivens, IsWorker, IsOther, next_other, lone_bound}
+use Rattle.amo_params.specs.Givens.{AreGivens, IsWorker, IsOther, next_other, lone_bound}
 use Rattle.amo_kk.specs.Record.{is_open, wants_nothing}
 use Rattle.amo_kk.specs.Choice.{chosen_job, record_after_choice, record_after_check}
 use Rattle.amo_kk.specs.Step.{want, with_announced}
 use Rattle.amo_kk.specs.World.{process, loaded_value}
 use Rattle.amo_kk.specs.Alone.{IsFirstToClaimOrEnd}
 use Rattle.amo_kk.specs.Lawful.{IsLawful}
-use Rattle.amo_givens.specs.declared.givens.Givens.{Givens}
+use Rattle.amo_params.specs.declared.givens.Givens.{Givens}
 use Rattle.amo_kk.specs.declared.phase.Phase.{Phase}
 use Rattle.amo_kk.specs.declared.phase.Phase.TheVariants.{Announcing, Trying, Reading, Claiming, Holding, Over, Left}
 use Rattle.amo_kk.specs.declared.model.Record.{Record}

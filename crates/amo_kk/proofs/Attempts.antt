@@ -3,12 +3,12 @@ use Rattle.std.proofs.Common.{◌≡◌, ⊎_elim, ℕ, zero, suc, ◌+◌, ◌-
 use Rattle.std.specs.Prelude.{if◌then◌else◌, ◌==◌, nat_lt}
 use Rattle.std.proofs.lemmas.Bool.Decides.{nat_tests}
 use Rattle.std.proofs.lemmas.Bool.{cases_lt, true≢false, or_parts}
-use Rattle.amo_givens.specs.Givens.{AreGivens}
+use Rattle.amo_params.specs.Givens.{AreGivens}
 use Rattle.amo_kk.specs.Step.{want_in, want, is_load}
 use Rattle.amo_kk.specs.World.{process, world_after_turn}
 use Rattle.amo_kk.specs.Alone.{is_claiming, claims_or_ends, world_after_turns, IsFirstToClaimOrEnd, want_at, value_at, stores_announcement, reads_announcement, reads_zero, reads_entry, turns_that, attempts_going_on, turns_of_attempt, FitsThreeAttempts}
 use Rattle.amo_kk.specs.Lawful.{IsLawful}
-use Rattle.amo_givens.specs.declared.givens.Givens.{Givens}
+use Rattle.amo_params.specs.declared.givens.Givens.{Givens}
 use Rattle.amo_kk.specs.declared.phase.Phase.{Phase}
 use Rattle.amo_kk.specs.declared.phase.Phase.TheVariants.{Announcing, Trying, Reading, Claiming, Holding, Over, Left}
 use Rattle.amo_kk.specs.declared.phase.Want.{Want}

@@ -7,11 +7,11 @@ use Rattle.std.proofs.lemmas.Nat.{div_below}
 use Rattle.amo_sets.specs.Lists.{numbered, put}
 use Rattle.amo_sets.specs.Sets.{has, with_number}
 use Rattle.amo_sets.specs.Rank.{count}
-use Rattle.amo_givens.specs.Givens.{IsJob, IsWorker, next_other}
+use Rattle.amo_params.specs.Givens.{IsJob, IsWorker, next_other}
 use Rattle.amo_kk.specs.Record.{is_free, is_open, is_over, wants_nothing}
 use Rattle.amo_kk.specs.Choice.{chosen_rank, chosen_job, record_after_choice, record_after_check}
 use Rattle.amo_kk.specs.Step.{with_announced, record_at_row, record_at_announcement, record_after_phase, record_after}
-use Rattle.amo_givens.specs.declared.givens.Givens.{Givens}
+use Rattle.amo_params.specs.declared.givens.Givens.{Givens}
 use Rattle.amo_kk.specs.declared.phase.Phase.{Phase}
 use Rattle.amo_kk.specs.declared.phase.Phase.TheVariants.{Announcing, Trying, Reading, Claiming, Holding, Over, Left}
 use Rattle.amo_kk.specs.declared.model.Record.{Record}

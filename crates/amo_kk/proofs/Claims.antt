@@ -7,10 +7,10 @@ use Rattle.std.proofs.lemmas.Bool.Decides.{nat_tests}
 use Rattle.std.proofs.lemmas.List.{length_push}
 use Rattle.amo_sets.specs.Lists.{numbered, put, table}
 use Rattle.amo_sets.specs.Sets.{has, AreDistinct, without_number}
-use Rattle.amo_givens.specs.Givens.{AreGivens, bound, is_within}
+use Rattle.amo_params.specs.Givens.{AreGivens, bound, is_within}
 use Rattle.amo_kk.specs.Object.{first_object, is_here, has_in_hand, is_step, object_after}
 use Rattle.amo_kk.specs.Run.{object_after_all, IsRun, first_bad, IsFirstBad, claimed_jobs, done_jobs, has_claimed}
-use Rattle.amo_givens.specs.declared.givens.Givens.{Givens}
+use Rattle.amo_params.specs.declared.givens.Givens.{Givens}
 use Rattle.amo_kk.specs.declared.model.Object.{Object}
 use Rattle.amo_kk.specs.declared.event.Event.{Event}
 use Rattle.amo_kk.specs.declared.event.Event.TheVariants.{Claimed, Done, Ended, Halted, Left}

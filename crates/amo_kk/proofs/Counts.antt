@@ -6,10 +6,10 @@ use Rattle.amo_sets.specs.Sets.{has, AreDistinct}
 use Rattle.amo_sets.proofs.Numbers.{length-table}
 use Rattle.amo_sets.proofs.Removed.{has-without, length-without, distinct-without}
 use Rattle.amo_sets.proofs.Tables.{has-numbers, distinct_numbers}
-use Rattle.amo_givens.specs.Givens.{IsJob}
+use Rattle.amo_params.specs.Givens.{IsJob}
 use Rattle.amo_kk.specs.Object.{first_object, object_after}
 use Rattle.amo_kk.specs.Run.{object_after_all, IsRun, claimed_jobs, done_jobs}
-use Rattle.amo_givens.specs.declared.givens.Givens.{Givens}
+use Rattle.amo_params.specs.declared.givens.Givens.{Givens}
 use Rattle.amo_kk.specs.declared.model.Object.{Object}
 use Rattle.amo_kk.specs.declared.event.Event.{Event}
 use Rattle.amo_kk.specs.declared.event.Event.TheVariants.{Claimed, Done, Ended, Halted, Left}

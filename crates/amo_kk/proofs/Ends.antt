@@ -7,11 +7,11 @@ use Rattle.amo_sets.specs.Lists.{numbered}
 use Rattle.amo_sets.specs.Sets.{has}
 use Rattle.amo_sets.specs.Rank.{count}
 use Rattle.amo_sets.proofs.Numbers.{has-append}
-use Rattle.amo_givens.specs.Givens.{IsWorker, bound}
+use Rattle.amo_params.specs.Givens.{IsWorker, bound}
 use Rattle.amo_kk.specs.Record.{is_open, is_over}
 use Rattle.amo_kk.specs.World.{nobody, process, done_count}
 use Rattle.amo_kk.specs.Lawful.{FitsPhase, IsSoundRecord, IsLawful}
-use Rattle.amo_givens.specs.declared.givens.Givens.{Givens}
+use Rattle.amo_params.specs.declared.givens.Givens.{Givens}
 use Rattle.amo_kk.specs.declared.phase.Phase.{Phase}
 use Rattle.amo_kk.specs.declared.phase.Phase.TheVariants.{Over}
 use Rattle.amo_kk.specs.declared.model.Record.{Record}

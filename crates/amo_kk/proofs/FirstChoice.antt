@@ -7,10 +7,10 @@ use Rattle.std.proofs.Math.Nat.{div-mul-le_self}
 use Rattle.amo_sets.specs.Sets.{has}
 use Rattle.amo_sets.specs.Rank.{count, has_rank, number_of_rank}
 use Rattle.amo_sets.proofs.Numbers.{count_true, ranked_is}
-use Rattle.amo_givens.specs.Givens.{IsJob, IsWorker}
+use Rattle.amo_params.specs.Givens.{IsJob, IsWorker}
 use Rattle.amo_kk.specs.Record.{is_free, is_open, empty_record}
 use Rattle.amo_kk.specs.Choice.{chosen_rank, chosen_job, first_record}
-use Rattle.amo_givens.specs.declared.givens.Givens.{Givens}
+use Rattle.amo_params.specs.declared.givens.Givens.{Givens}
 use Rattle.amo_kk.specs.declared.model.Record.{Record}
 use Rattle.amo_kk.specs.declared.phase.Phase.TheVariants.{Announcing, Over}
 use Rattle.amo_kk.proofs.Choice.{open_parts, chosen_is, rank_within}

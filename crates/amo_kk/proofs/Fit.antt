@@ -4,13 +4,13 @@ use Rattle.std.specs.Prelude.{if◌then◌else◌, ◌==◌}
 use Rattle.std.proofs.lemmas.Bool.{cases_eq, cases_Bool, true≢false, eqb-false}
 use Rattle.amo_sets.specs.Lists.{numbered, put, table}
 use Rattle.amo_sets.specs.Sets.{has, AreDistinct, with_number}
-use Rattle.amo_givens.specs.Givens.{AreGivens, IsJob, IsWorker, IsOther, next_other, others_before}
+use Rattle.amo_params.specs.Givens.{AreGivens, IsJob, IsWorker, IsOther, next_other, others_before}
 use Rattle.amo_kk.specs.Record.{empty_record, jobs_in_hand}
 use Rattle.amo_kk.specs.Choice.{chosen_job, record_after_choice, record_after_check, first_record}
 use Rattle.amo_kk.specs.Step.{want_in, want, with_announced, record_at_row, record_after_phase, record_after, record_after_leave, MayLoad}
 use Rattle.amo_kk.specs.Again.{set_of, are_new, record_of_dones}
 use Rattle.amo_kk.specs.Lawful.{FitsPhase, IsSoundRecord}
-use Rattle.amo_givens.specs.declared.givens.Givens.{Givens}
+use Rattle.amo_params.specs.declared.givens.Givens.{Givens}
 use Rattle.amo_kk.specs.declared.phase.Phase.{Phase}
 use Rattle.amo_kk.specs.declared.phase.Phase.TheVariants.{Announcing, Trying, Reading, Claiming, Holding, Over, Left}
 use Rattle.amo_kk.specs.declared.model.Record.{Record}

@@ -5,7 +5,7 @@ use Rattle.std.proofs.lemmas.List.{length_push}
 use Rattle.amo_kk.specs.Alone.{is_claiming}
 use Rattle.amo_kk.specs.Record.{is_over, wants_nothing}
 use Rattle.amo_kk.specs.Step.{record_after_phase, record_after}
-use Rattle.amo_givens.specs.declared.givens.Givens.{Givens}
+use Rattle.amo_params.specs.declared.givens.Givens.{Givens}
 use Rattle.amo_kk.specs.declared.phase.Phase.{Phase}
 use Rattle.amo_kk.specs.declared.phase.Phase.TheVariants.{Announcing, Claiming, Left}
 use Rattle.amo_kk.specs.declared.model.Record.{Record}

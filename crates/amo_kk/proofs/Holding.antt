@@ -5,14 +5,14 @@ use Rattle.std.proofs.lemmas.Bool.{ne_eqb}
 use Rattle.std.specs.Prelude.{if◌then◌else◌}
 use Rattle.amo_sets.specs.Lists.{numbered, put}
 use Rattle.amo_sets.specs.Sets.{with_number}
-use Rattle.amo_givens.specs.Givens.{AreGivens, IsWorker, next_other}
+use Rattle.amo_params.specs.Givens.{AreGivens, IsWorker, next_other}
 use Rattle.amo_kk.specs.Step.{want, record_at_row, record_after_phase, record_after, MayLoad}
 use Rattle.amo_kk.specs.Lawful.{IsSoundRecord}
 use Rattle.amo_kk.specs.declared.phase.Phase.TheVariants.{Claiming, Reading, Left}
 use Rattle.amo_kk.specs.declared.phase.Phase.{Phase}
 use Rattle.amo_kk.specs.declared.phase.Want.{Want}
 use Rattle.amo_kk.specs.declared.phase.Want.TheVariants.{LoadNext, LoadDone}
-use Rattle.amo_givens.specs.declared.givens.Givens.{Givens}
+use Rattle.amo_params.specs.declared.givens.Givens.{Givens}
 use Rattle.amo_kk.specs.declared.model.Record.{Record}
 use Rattle.amo_kk.proofs.Bits.{numbered_before}
 use Rattle.amo_kk.proofs.Fit.{claims_fit, after_fit, left_fit}

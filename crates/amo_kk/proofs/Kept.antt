@@ -6,7 +6,7 @@ use Rattle.std.proofs.lemmas.Bool.{cases_Bool, cases_eq, cases_lt, true≢false,
 use Rattle.std.proofs.lemmas.List.{get_or_past, get_or-set_same, get_or-set_other, get_or_push, get_or_append_left, length_push, append-nil}
 use Rattle.amo_sets.specs.Lists.{numbered, put}
 use Rattle.amo_sets.specs.Sets.{has, with_number}
-use Rattle.amo_givens.specs.Givens.{IsJob, IsWorker, IsOther, next_other, others_before}
+use Rattle.amo_params.specs.Givens.{IsJob, IsWorker, IsOther, next_other, others_before}
 use Rattle.amo_kk.specs.Record.{wants_nothing, jobs_in_hand, IsPast, IsThrough, IsClear}
 use Rattle.amo_kk.specs.Choice.{chosen_job, record_after_choice, record_after_check}
 use Rattle.amo_kk.specs.Step.{want_in, with_announced, record_at_row, record_at_announcement, record_after_phase, record_after, record_after_leave}
@@ -14,7 +14,7 @@ use Rattle.amo_kk.specs.World.{process_after}
 use Rattle.amo_kk.specs.Lawful.{Announces, FitsPhase, IsSoundRecord, IsSoundProcess, IsDoneByOther, IsUnclaimedByOther, IsSoundTowards, IsDone, AreLawful}
 use Rattle.amo_kk.specs.declared.phase.Want.{Want}
 use Rattle.amo_kk.specs.declared.phase.Want.TheVariants.{StoreNext, LoadNext, LoadDone}
-use Rattle.amo_givens.specs.declared.givens.Givens.{Givens}
+use Rattle.amo_params.specs.declared.givens.Givens.{Givens}
 use Rattle.amo_kk.specs.declared.phase.Phase.{Phase}
 use Rattle.amo_kk.specs.declared.phase.Phase.TheVariants.{Announcing, Trying, Reading, Claiming, Holding, Over, Left}
 use Rattle.amo_kk.specs.declared.model.Record.{Record}

@@ -5,13 +5,13 @@ use Rattle.std.proofs.lemmas.List.{get_or_past}
 use Rattle.amo_sets.specs.Lists.{numbered}
 use Rattle.amo_sets.specs.Sets.{has}
 use Rattle.amo_sets.proofs.Numbers.{has-get_or, has-append}
-use Rattle.amo_givens.specs.Givens.{IsWorker}
+use Rattle.amo_params.specs.Givens.{IsWorker}
 use Rattle.amo_kk.specs.Record.{jobs_in_hand}
 use Rattle.amo_kk.specs.Step.{want, is_load, MayLoad}
 use Rattle.amo_kk.specs.World.{process, loaded_value}
 use Rattle.amo_kk.specs.Fits.{WantFits}
 use Rattle.amo_kk.specs.Lawful.{IsSoundProcess, IsLawful}
-use Rattle.amo_givens.specs.declared.givens.Givens.{Givens}
+use Rattle.amo_params.specs.declared.givens.Givens.{Givens}
 use Rattle.amo_kk.specs.declared.phase.Want.{Want}
 use Rattle.amo_kk.specs.declared.phase.Want.TheVariants.{LoadNext, LoadDone}
 use Rattle.amo_kk.specs.declared.model.World.{World}

@@ -6,14 +6,14 @@ use Rattle.std.proofs.lemmas.Bool.{cases_eq, cases_lt, true≢false, or_left, or
 use Rattle.std.proofs.lemmas.List.{get_or_past}
 use Rattle.amo_sets.specs.Lists.{numbered, put}
 use Rattle.amo_sets.specs.Sets.{has, with_number}
-use Rattle.amo_givens.specs.Givens.{AreGivens, IsWorker, IsOther, next_other}
+use Rattle.amo_params.specs.Givens.{AreGivens, IsWorker, IsOther, next_other}
 use Rattle.amo_kk.specs.Record.{is_over, wants_nothing}
 use Rattle.amo_kk.specs.Choice.{record_after_check}
 use Rattle.amo_kk.specs.Step.{want_in, want, with_announced, record_at_row, record_after_phase}
 use Rattle.amo_kk.specs.World.{process, loaded_value, world_after_turn}
 use Rattle.amo_kk.specs.Alone.{is_claiming, claims_or_ends, world_after_turns, IsFirstToClaimOrEnd, stores_announcement, want_at}
 use Rattle.amo_kk.specs.Lawful.{IsLawful}
-use Rattle.amo_givens.specs.declared.givens.Givens.{Givens}
+use Rattle.amo_params.specs.declared.givens.Givens.{Givens}
 use Rattle.amo_kk.specs.declared.phase.Phase.{Phase}
 use Rattle.amo_kk.specs.declared.phase.Phase.TheVariants.{Announcing, Trying, Reading, Claiming}
 use Rattle.amo_kk.specs.declared.model.Record.{Record}

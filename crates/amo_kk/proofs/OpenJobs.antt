@@ -14,7 +14,7 @@ use Rattle.amo_sets.proofs.Tally.{count_same, count_gain}
 use Rattle.amo_kk.specs.Record.{is_free, is_open}
 use Rattle.amo_kk.specs.Choice.{chosen_rank, chosen_job, record_after_choice}
 use Rattle.amo_kk.specs.Knowledge.{numbers_without}
-use Rattle.amo_givens.specs.declared.givens.Givens.{Givens}
+use Rattle.amo_params.specs.declared.givens.Givens.{Givens}
 use Rattle.amo_kk.specs.declared.phase.Phase.TheVariants.{Announcing, Over}
 use Rattle.amo_kk.specs.declared.model.Record.{Record}
 

@@ -6,7 +6,7 @@ use Rattle.std.proofs.lemmas.Grind.{flat_map-append}
 use Rattle.amo_sets.specs.Lists.{table}
 use Rattle.amo_kk.specs.Words.{words_of, word_count}
 use Rattle.amo_kk.specs.World.{first_process, opening_world}
-use Rattle.amo_givens.specs.declared.givens.Givens.{Givens}
+use Rattle.amo_params.specs.declared.givens.Givens.{Givens}
 use Rattle.amo_kk.specs.declared.model.Process.{Process}
 
 map_table : {X : Type 0} (f : X → ℕ) (h : ℕ → X) → ((k : ℕ) → f (h k) ≡ 0) → (n : ℕ) → map f (table n h) ≡ replicate n 0

@@ -6,10 +6,10 @@ use Rattle.std.proofs.lemmas.Bool.Decides.{nat_tests}
 use Rattle.amo_sets.specs.Lists.{numbered, put, table}
 use Rattle.amo_sets.specs.Sets.{has, without_number}
 use Rattle.amo_sets.specs.Rank.{count}
-use Rattle.amo_givens.specs.Givens.{is_within}
+use Rattle.amo_params.specs.Givens.{is_within}
 use Rattle.amo_kk.specs.Object.{first_object, is_here, has_in_hand, is_step, object_after}
 use Rattle.amo_kk.specs.Run.{IsRun}
-use Rattle.amo_givens.specs.declared.givens.Givens.{Givens}
+use Rattle.amo_params.specs.declared.givens.Givens.{Givens}
 use Rattle.amo_kk.specs.declared.model.Object.{Object}
 use Rattle.amo_kk.specs.declared.event.Event.{Event}
 use Rattle.amo_kk.specs.declared.event.Event.TheVariants.{Claimed, Done, Ended, Halted, Left}

@@ -6,7 +6,7 @@ use Rattle.amo_kk.specs.Record.{can_leave}
 use Rattle.amo_kk.specs.Step.{record_after_leave, events_of}
 use Rattle.amo_kk.specs.World.{process, process_after, world_with, world_after_step, world_after_turn, world_after_leave}
 use Rattle.amo_kk.specs.Answer.{turn_shown, leaving, leave_answer}
-use Rattle.amo_givens.specs.declared.givens.Givens.{Givens}
+use Rattle.amo_params.specs.declared.givens.Givens.{Givens}
 use Rattle.amo_kk.specs.declared.phase.Phase.{Phase}
 use Rattle.amo_kk.specs.declared.phase.Phase.TheVariants.{Announcing, Trying, Reading, Claiming, Holding, Over, Left as LeftPhase}
 use Rattle.amo_kk.specs.declared.event.Event.TheVariants.{Left as LeftEvent}

@@ -6,11 +6,11 @@ use Rattle.std.proofs.lemmas.List.{length-map}
 use Rattle.amo_sets.specs.Lists.{numbered, put}
 use Rattle.amo_sets.specs.Sets.{has, without_number}
 use Rattle.amo_sets.specs.Rank.{count}
-use Rattle.amo_givens.specs.Givens.{IsJob, IsWorker, is_within}
+use Rattle.amo_params.specs.Givens.{IsJob, IsWorker, is_within}
 use Rattle.amo_kk.specs.Object.{is_here, is_step, object_after}
 use Rattle.amo_kk.specs.Record.{is_open, job_in_hand}
 use Rattle.amo_kk.specs.Lawful.{jobs_of, Agrees}
-use Rattle.amo_givens.specs.declared.givens.Givens.{Givens}
+use Rattle.amo_params.specs.declared.givens.Givens.{Givens}
 use Rattle.amo_kk.specs.declared.model.Record.{Record}
 use Rattle.amo_kk.specs.declared.model.Process.{Process}
 use Rattle.amo_kk.specs.declared.model.Object.{Object}

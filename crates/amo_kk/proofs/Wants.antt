@@ -2,14 +2,14 @@
 use Rattle.std.proofs.Common.{◌≡◌, ℕ, ◌+◌, ◌++◌, Bool, true, false, List, length, arith, refl, sym, ap, ◌∙◌}
 use Rattle.std.proofs.lemmas.Bool.{true≢false}
 use Rattle.std.proofs.lemmas.List.{length_push}
-use Rattle.amo_givens.specs.Givens.{AreGivens, IsWorker}
+use Rattle.amo_params.specs.Givens.{AreGivens, IsWorker}
 use Rattle.amo_kk.specs.Fits.{WantFits}
 use Rattle.amo_kk.specs.Lawful.{FitsPhase, IsSoundRecord}
 use Rattle.amo_kk.specs.Alone.{is_claiming}
 use Rattle.amo_kk.specs.Record.{wants_nothing, can_leave, jobs_in_hand}
 use Rattle.amo_kk.specs.Step.{want, want_in, is_load, is_store}
 use Rattle.amo_kk.specs.Words.{words_after}
-use Rattle.amo_givens.specs.declared.givens.Givens.{Givens}
+use Rattle.amo_params.specs.declared.givens.Givens.{Givens}
 use Rattle.amo_kk.specs.declared.phase.Phase.{Phase}
 use Rattle.amo_kk.specs.declared.phase.Phase.TheVariants.{Announcing, Trying, Reading, Claiming, Holding, Over, Left}
 use Rattle.amo_kk.specs.declared.phase.Want.{Want}

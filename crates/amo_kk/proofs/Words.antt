@@ -3,7 +3,7 @@ use Rattle.std.proofs.Common.{◌≡◌, ℕ, zero, suc, ◌+◌, ◌-◌, ◌*�
 use Rattle.std.specs.List.{flat_map}
 use Rattle.std.proofs.lemmas.List.{get_or_append_left, get_or-append-add, set-append_left, set-append_right, length-map, get_or-map, map-set}
 use Rattle.amo_sets.specs.Lists.{numbered, put}
-use Rattle.amo_givens.specs.Givens.{IsJob, IsWorker, IsOther, others_before}
+use Rattle.amo_params.specs.Givens.{IsJob, IsWorker, IsOther, others_before}
 use Rattle.amo_kk.specs.Record.{can_leave}
 use Rattle.amo_kk.specs.Step.{want_in, want, record_after, record_after_leave}
 use Rattle.amo_kk.specs.World.{nobody, process, loaded_value, process_after, world_with, world_after_step, world_after_turn, world_after_leave}
@@ -11,7 +11,7 @@ use Rattle.amo_kk.specs.Words.{words_of, next_word, claim_word, done_word, loade
 use Rattle.amo_kk.specs.Lawful.{IsLawful}
 use Rattle.std.specs.Prelude.{if◌then◌else◌}
 use Rattle.amo_kk.proofs.Worlds.{here_is_worker}
-use Rattle.amo_givens.specs.declared.givens.Givens.{Givens}
+use Rattle.amo_params.specs.declared.givens.Givens.{Givens}
 use Rattle.amo_kk.specs.declared.phase.Phase.{Phase}
 use Rattle.amo_kk.specs.declared.phase.Phase.TheVariants.{Announcing, Trying, Reading, Claiming, Holding}
 use Rattle.amo_kk.specs.declared.model.Record.{Record}

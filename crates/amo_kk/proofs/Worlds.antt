@@ -5,13 +5,13 @@ use Rattle.std.proofs.lemmas.Bool.{cases_lt, true≢false}
 use Rattle.std.proofs.lemmas.List.{get_or_past, get_or-replicate, length-replicate}
 use Rattle.amo_sets.specs.Lists.{numbered, put, table}
 use Rattle.amo_sets.specs.Sets.{has}
-use Rattle.amo_givens.specs.Givens.{AreGivens, IsWorker}
+use Rattle.amo_params.specs.Givens.{AreGivens, IsWorker}
 use Rattle.amo_kk.specs.Record.{empty_record, wants_nothing, can_leave, jobs_in_hand, IsPast}
 use Rattle.amo_kk.specs.Choice.{chosen_job, first_record}
 use Rattle.amo_kk.specs.Step.{want, record_after, record_after_leave}
 use Rattle.amo_kk.specs.World.{nobody, process, loaded_value, process_after, world_with, world_after_step, world_after_turn, world_after_halt, world_after_leave, world_after_move, world_after_moves, first_process, opening_world, world_of}
 use Rattle.amo_kk.specs.Lawful.{Announces, IsSoundRecord, IsSoundProcess, IsSoundTowards, IsLawful}
-use Rattle.amo_givens.specs.declared.givens.Givens.{Givens}
+use Rattle.amo_params.specs.declared.givens.Givens.{Givens}
 use Rattle.amo_kk.specs.declared.phase.Phase.{Phase}
 use Rattle.amo_kk.specs.declared.phase.Phase.TheVariants.{Announcing, Holding, Over}
 use Rattle.amo_kk.specs.declared.model.Record.{Record}
@@ -20,8 +20,8 @@ use Rattle.amo_kk.specs.declared.phase.Want.TheVariants.{StoreNext, LoadNext, Lo
 use Rattle.amo_kk.specs.declared.model.Process.{Process}
 use Rattle.amo_kk.specs.declared.model.World.{World}
 use Rattle.amo_kk.specs.declared.event.Event.TheVariants.{Halted, Left as LeftEvent}
-use Rattle.amo_givens.specs.declared.moves.Move.{Move}
-use Rattle.amo_givens.specs.declared.moves.Move.TheVariants.{Turn, Halt, Leave}
+use Rattle.amo_params.specs.declared.moves.Move.{Move}
+use Rattle.amo_params.specs.declared.moves.Move.TheVariants.{Turn, Halt, Leave}
 use Rattle.amo_sets.proofs.Numbers.{numbered-put_same, numbered-put_other, length-put, length-table}
 use Rattle.amo_sets.proofs.Tables.{numbered-table, numbered-table_same}
 use Rattle.amo_kk.proofs.Choice.{choice_cases}

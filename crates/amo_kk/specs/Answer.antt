@@ -2,7 +2,7 @@
 use Rattle.std.specs.Prelude.{ℕ, if◌then◌else◌}
 use Rattle.amo_kk.specs.Step.{want, record_after, shown}
 use Rattle.amo_kk.specs.World.{process, loaded_value}
-use Rattle.amo_givens.specs.declared.givens.Givens.{Givens}
+use Rattle.amo_params.specs.declared.givens.Givens.{Givens}
 use Rattle.amo_kk.specs.declared.phase.Phase.{Phase}
 use Rattle.amo_kk.specs.declared.phase.Phase.TheVariants.{Holding, Over, Left as LeftPhase}
 use Rattle.amo_kk.specs.declared.event.Shown.{Shown}

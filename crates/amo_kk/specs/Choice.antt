@@ -2,7 +2,7 @@
 use Rattle.std.specs.Prelude.{ℕ, ◌+◌, ◌-◌, ◌*◌, ◌/◌, [], nat_lt, nat_le, if◌then◌else◌}
 use Rattle.amo_sets.specs.Rank.{count, number_of_rank}
 use Rattle.amo_kk.specs.Record.{is_free, is_open, empty_record}
-use Rattle.amo_givens.specs.declared.givens.Givens.{Givens}
+use Rattle.amo_params.specs.declared.givens.Givens.{Givens}
 use Rattle.amo_kk.specs.declared.phase.Phase.TheVariants.{Announcing, Claiming, Over}
 use Rattle.amo_kk.specs.declared.model.Record.{Record}
 

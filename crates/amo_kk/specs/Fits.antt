@@ -1,7 +1,7 @@
 -- Facts about the load or store that a worker wants.
 use Rattle.std.specs.Prelude.{ℕ, ◌+◌, ◌≤◌, ⊤}
-use Rattle.amo_givens.specs.Givens.{IsJob, IsOther}
-use Rattle.amo_givens.specs.declared.givens.Givens.{Givens}
+use Rattle.amo_params.specs.Givens.{IsJob, IsOther}
+use Rattle.amo_params.specs.declared.givens.Givens.{Givens}
 use Rattle.amo_kk.specs.declared.phase.Want.{Want}
 use Rattle.amo_kk.specs.declared.phase.Want.TheVariants.{StoreNext, LoadNext, LoadDone, StoreClaim, StoreDone, Nothing}
 

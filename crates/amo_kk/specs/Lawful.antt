@@ -3,12 +3,12 @@ use Rattle.std.specs.Prelude.{◌≡◌, ◌⊎◌, ℕ, ◌+◌, ◌<◌, ◌�
 use Rattle.amo_sets.specs.Lists.{numbered}
 use Rattle.amo_sets.specs.Sets.{has, AreDistinct}
 use Rattle.amo_sets.specs.Rank.{count}
-use Rattle.amo_givens.specs.Givens.{IsJob, IsWorker, IsOther, others_before}
+use Rattle.amo_params.specs.Givens.{IsJob, IsWorker, IsOther, others_before}
 use Rattle.amo_kk.specs.Object.{first_object}
 use Rattle.amo_kk.specs.Run.{object_after_all, IsRun}
 use Rattle.amo_kk.specs.Record.{is_open, wants_nothing, job_in_hand, jobs_in_hand, IsThrough, IsClear}
 use Rattle.amo_kk.specs.World.{process}
-use Rattle.amo_givens.specs.declared.givens.Givens.{Givens}
+use Rattle.amo_params.specs.declared.givens.Givens.{Givens}
 use Rattle.amo_kk.specs.declared.event.Event.{Event}
 use Rattle.amo_kk.specs.declared.phase.Phase.{Phase}
 use Rattle.amo_kk.specs.declared.phase.Phase.TheVariants.{Announcing, Trying, Reading, Claiming, Holding, Over, Left}

@@ -1,11 +1,11 @@
 -- How contracts see the local machine, and what holds of its fields.
 use Rattle.std.specs.Prelude.{◌≡◌, ℕ, ◌≤◌, true, List, [], length, get_or}
 use Rattle.amo_sets.specs.Lists.{table}
-use Rattle.amo_givens.specs.Givens.{AreGivens, IsWorker}
+use Rattle.amo_params.specs.Givens.{AreGivens, IsWorker}
 use Rattle.amo_kk.specs.Again.{set_of, are_new}
 use Rattle.amo_kk.specs.Knowledge.{KnowledgeView}
 use Rattle.amo_kk.specs.Lawful.{IsSoundRecord}
-use Rattle.amo_givens.specs.declared.givens.Givens.{Givens}
+use Rattle.amo_params.specs.declared.givens.Givens.{Givens}
 use Rattle.amo_kk.specs.declared.phase.Phase.{Phase}
 use Rattle.amo_kk.specs.declared.model.Record.{Record}
 

@@ -2,8 +2,8 @@
 use Rattle.std.specs.Prelude.{ℕ, ◌+◌, Bool, true, false, not, ◌&&◌, [], ◌∷◌, ◌++◌, length, nat_le, ◌==◌}
 use Rattle.amo_sets.specs.Lists.{numbered, put, table}
 use Rattle.amo_sets.specs.Sets.{has, without_number}
-use Rattle.amo_givens.specs.Givens.{is_within}
-use Rattle.amo_givens.specs.declared.givens.Givens.{Givens}
+use Rattle.amo_params.specs.Givens.{is_within}
+use Rattle.amo_params.specs.declared.givens.Givens.{Givens}
 use Rattle.amo_kk.specs.declared.event.Event.{Event}
 use Rattle.amo_kk.specs.declared.event.Event.TheVariants.{Claimed, Done, Ended, Halted, Left}
 use Rattle.amo_kk.specs.declared.model.Object.{Object}

@@ -5,7 +5,7 @@ use Rattle.amo_sets.specs.Lists.{numbered, put, table}
 use Rattle.amo_kk.specs.Record.{wants_nothing, can_leave}
 use Rattle.amo_kk.specs.Choice.{first_record}
 use Rattle.amo_kk.specs.Step.{want, record_after, record_after_leave, shown, events_of}
-use Rattle.amo_givens.specs.declared.givens.Givens.{Givens}
+use Rattle.amo_params.specs.declared.givens.Givens.{Givens}
 use Rattle.amo_kk.specs.declared.phase.Phase.TheVariants.{Over}
 use Rattle.amo_kk.specs.declared.model.Record.{Record}
 use Rattle.amo_kk.specs.declared.phase.Want.{Want}
@@ -13,8 +13,8 @@ use Rattle.amo_kk.specs.declared.phase.Want.TheVariants.{StoreNext, LoadNext, Lo
 use Rattle.amo_kk.specs.declared.model.Process.{Process}
 use Rattle.amo_kk.specs.declared.event.Event.{Event}
 use Rattle.amo_kk.specs.declared.event.Event.TheVariants.{Ended, Halted, Left}
-use Rattle.amo_givens.specs.declared.moves.Move.{Move}
-use Rattle.amo_givens.specs.declared.moves.Move.TheVariants.{Turn, Halt, Leave}
+use Rattle.amo_params.specs.declared.moves.Move.{Move}
+use Rattle.amo_params.specs.declared.moves.Move.TheVariants.{Turn, Halt, Leave}
 use Rattle.amo_kk.specs.declared.model.World.{World}
 
 -- the process for a number that no worker has: it is gone, and has nothing

@@ -3,13 +3,13 @@ ghost use Rattle.std.specs.Prelude.{◌≡◌, ◌≤◌, ◌+◌, [], IfOk, len
 ghost use Rattle.amo_sets.specs.Rank.{count};
 ghost use Rattle.amo_sets.specs.Bits.{is_without};
 ghost use Rattle.amo_sets.specs.Sets.{has, with_number};
-ghost use Rattle.amo_givens.specs.Givens.{IsJob, IsWorker};
+ghost use Rattle.amo_params.specs.Givens.{IsJob, IsWorker};
 ghost use Rattle.amo_kk.specs.Choice.{chosen_rank, record_after_choice, record_after_check};
 ghost use Rattle.amo_kk.specs.Step.{with_announced, record_at_row, record_at_announcement};
 ghost use Rattle.amo_kk.specs.Knowledge.{LeadsTo};
 
 use crate::phase::{Phase, next_other};
-use amo_givens::Givens;
+use amo_params::Givens;
 use amo_sets::JobSet;
 use std::alloc::{AllocError, Global};
 use std::marker::Model;

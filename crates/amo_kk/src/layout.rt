@@ -3,10 +3,10 @@
 //! This layout holds in memory, in a file and in a store. Word 0 belongs to no worker. In
 //! threads the registry loads it when a worker is hired or collected.
 ghost use Rattle.std.specs.Prelude.{◌≡◌, ◌≤◌, ◌+◌};
-ghost use Rattle.amo_givens.specs.Givens.{IsWorker};
+ghost use Rattle.amo_params.specs.Givens.{IsWorker};
 ghost use Rattle.amo_kk.specs.Words.{word_count, next_word, claim_word, done_word};
 
-use amo_givens::Givens;
+use amo_params::Givens;
 
 /// Returns how many words there are: word 0, and for each worker its announcement, its count of
 /// claims and its row of `jobs + 1` entries.

@@ -3,7 +3,7 @@
 //! Start at [`Local`], the state machine of one worker: it says which register to load or store
 //! next, and takes the value of each load. [`layout`] has the places of the registers. The module
 //! `laws` has the theorems over all orders of steps. The types of `model` are for contracts alone.
-//! The parameters of a run come from `amo_givens`, and are exported again here.
+//! The parameters of a run come from `amo_params`, and are exported again here.
 //!
 //! | here | in the article on KK-beta |
 //! |---|---|
@@ -21,7 +21,7 @@ mod local;
 mod model;
 mod phase;
 
-pub use amo_givens::{Givens, GivensFault, MAX_BETA, MAX_JOBS, MAX_STEPS, MAX_WORKERS, Move};
+pub use amo_params::{Givens, GivensFault, MAX_BETA, MAX_JOBS, MAX_STEPS, MAX_WORKERS, Move};
 pub use event::{Event, Leaving, Shown};
 pub use local::{Local, NoSuchWords};
 pub use model::{Object, Process, Record, World};

@@ -7,7 +7,7 @@ ghost use Rattle.amo_kk.specs.declared.phase.Phase.TheVariants.{Announcing, Tryi
 ghost use Rattle.std.specs.Option.{option_to_list};
 ghost use Rattle.amo_sets.specs.Lists.{numbered};
 ghost use Rattle.amo_sets.specs.Sets.{has};
-ghost use Rattle.amo_givens.specs.Givens.{IsJob, IsWorker, IsOther};
+ghost use Rattle.amo_params.specs.Givens.{IsJob, IsWorker, IsOther};
 ghost use Rattle.amo_kk.specs.Choice.{first_record};
 ghost use Rattle.amo_kk.specs.Record.{is_over, can_leave, jobs_in_hand};
 ghost use Rattle.amo_kk.specs.Step.{want, is_load, is_store, record_after, record_after_leave, shown, MayLoad};
@@ -20,7 +20,7 @@ use crate::event::Shown;
 use crate::knowledge::Knowledge;
 use crate::phase::{Phase, Want, next_other};
 pub use again::NoSuchWords;
-use amo_givens::Givens;
+use amo_params::Givens;
 use amo_sets::filled;
 use std::alloc::{AllocError, Global};
 use std::marker::Model;

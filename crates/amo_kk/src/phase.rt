@@ -1,6 +1,6 @@
 //! The phases of a worker, and the accesses that it makes.
 ghost use Rattle.std.specs.Prelude.{◌≡◌, ◌<◌, ◌^◌};
-ghost use Rattle.amo_givens.specs.Givens.{next_other};
+ghost use Rattle.amo_params.specs.Givens.{next_other};
 
 use crate::event::Leaving;
 

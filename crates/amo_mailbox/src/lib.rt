@@ -7,7 +7,7 @@
 //! # Examples
 //!
 //! ```
-//! use amo_givens::Givens;
+//! use amo_params::Givens;
 //! use amo_mailbox::{Output, outlets};
 //!
 //! let givens = Givens::try_new(3, 2, 2)?;

@@ -7,7 +7,7 @@ ghost use Rattle.amo_mailbox.specs.Endpoints.{IsNewInletOf, IsNewOutletOf, place
 use crate::inlet::Inlet;
 use crate::outlet::Outlet;
 use crate::queue::{PLACES, Passes, Queue, Ring};
-use amo_givens::Givens;
+use amo_params::Givens;
 use std::alloc::{AllocError, Global};
 
 /// Returns a queue, its inlet and its outlets, for so many jobs and workers. Fails if there was no

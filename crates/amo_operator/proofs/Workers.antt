@@ -1,6 +1,6 @@
 -- The workers that are left.
 use Rattle.std.proofs.Common.{◌≡◌, ℕ, suc, ◌+◌, ◌-◌, ◌≤◌, List, ◌∷◌, ap, subst, arith}
-use Rattle.amo_givens.specs.declared.limits.TheConstants.{MAX_WORKERS}
+use Rattle.amo_params.specs.declared.limits.TheConstants.{MAX_WORKERS}
 use Rattle.amo_run_files.specs.declared.round_file.RoundFile.{RoundFile}
 use Rattle.std.specs.Prelude.{Option}
 use Rattle.amo_operator.specs.declared.model.Command.{Command}

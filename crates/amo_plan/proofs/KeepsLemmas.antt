@@ -8,12 +8,12 @@ use Rattle.std.proofs.lemmas.Bool.Decides.{nat_tests}
 use Rattle.std.proofs.lemmas.List.{length-map, length-replicate}
 use Rattle.std.proofs.lemmas.Map.Made.{AllPairs-from_IsDistinct}
 use Rattle.std.proofs.lemmas.Slice.Eq.{bytes_eq-Decides}
-use Rattle.amo_givens.specs.declared.moves.Move.{Move}
+use Rattle.amo_params.specs.declared.moves.Move.{Move}
 use Rattle.toml.specs.Data.{Data, Members, get_member}
-use Rattle.amo_givens.specs.declared.givens.Givens.{Givens}
-use Rattle.amo_givens.specs.declared.givens.GivensFault.{GivensFault}
-use Rattle.amo_givens.specs.Givens.{givens_of, numbers_or_fault}
-use Rattle.amo_givens.specs.Limits.{first_fault}
+use Rattle.amo_params.specs.declared.givens.Givens.{Givens}
+use Rattle.amo_params.specs.declared.givens.GivensFault.{GivensFault}
+use Rattle.amo_params.specs.Givens.{givens_of, numbers_or_fault}
+use Rattle.amo_params.specs.Limits.{first_fault}
 use Rattle.amo_plan.specs.declared.fault.PlanFault.TheVariants.{TooLong, WrongKind, UnknownKey, MissingKey}
 use Rattle.amo_plan.specs.declared.job.Job.{Job}
 use Rattle.amo_plan.specs.declared.limits.TheConstants.{NEWEST_VERSION, MOST_BYTES, MOST_MOVES, MOST_ROUNDS, USUAL_BUDGET, MOST_IN_BLOCK}

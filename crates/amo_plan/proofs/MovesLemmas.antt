@@ -1,7 +1,7 @@
 -- When the moves of a schedule are too many.
 use Rattle.std.proofs.Common.{◌≡◌, ℕ, ◌+◌, ◌<◌, ◌≤◌, List, length, get_or, take, Ok, Err, refl, ap, arith}
 use Rattle.std.proofs.lemmas.List.{take_all}
-use Rattle.amo_givens.specs.declared.moves.Move.{Move}
+use Rattle.amo_params.specs.declared.moves.Move.{Move}
 use Rattle.std.proofs.lemmas.Bool.{le-leb, lt-leb}
 use Rattle.std.proofs.lemmas.List.Folds.{length-flat_map-take}
 use Rattle.amo_plan.specs.declared.limits.TheConstants.{MOST_MOVES}

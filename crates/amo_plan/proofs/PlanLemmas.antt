@@ -7,8 +7,8 @@ use Rattle.toml.specs.Data.{Members}
 use Rattle.toml.specs.Parse.{parse_document}
 use Rattle.amo_plan.specs.declared.fault.PlanFault.TheVariants.{NotToml}
 use Rattle.std.specs.Int.{div_ceil}
-use Rattle.amo_givens.specs.declared.givens.Givens.{Givens}
-use Rattle.amo_givens.specs.Givens.{givens_of}
+use Rattle.amo_params.specs.declared.givens.Givens.{Givens}
+use Rattle.amo_params.specs.Givens.{givens_of}
 use Rattle.amo_plan.specs.declared.job.Job.{Job}
 use Rattle.amo_plan.specs.Top.{TopSeen, top_of}
 use Rattle.amo_plan.specs.Jobs.{read_jobs}

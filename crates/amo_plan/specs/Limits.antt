@@ -5,7 +5,7 @@ use Rattle.amo_plan.specs.declared.fault.PlanFault.{PlanFault}
 use Rattle.amo_plan.specs.declared.fault.PlanFault.TheVariants.{TooLong}
 use Rattle.amo_plan.specs.declared.limits.TheConstants.{MOST_ROUNDS, USUAL_BUDGET}
 use Rattle.amo_plan.specs.Passing.{unless}
-use Rattle.amo_givens.specs.declared.limits.TheConstants.{MAX_STEPS}
+use Rattle.amo_params.specs.declared.limits.TheConstants.{MAX_STEPS}
 
 -- no more steps than a worker may have
 abbrev pub is_small : ℕ → Bool

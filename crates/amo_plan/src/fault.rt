@@ -2,7 +2,7 @@
 ghost use Rattle.std.specs.Prelude.{◌≡◌, ◌↔◌, IsTrue};
 ghost use Rattle.amo_plan.specs.declared.fault.PlanFault.TheVariants.{NoMemory};
 
-use amo_givens::GivensFault;
+use amo_params::GivensFault;
 use std::alloc::{AllocError, AllocFailed};
 use thiserror::Error;
 

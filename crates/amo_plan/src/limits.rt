@@ -6,7 +6,7 @@ ghost use Rattle.amo_plan.specs.Limits.{is_small, budgets_within};
 ghost use Rattle.amo_plan.specs.declared.limits.TheConstants.{MOST_ROUNDS};
 
 use crate::fault::PlanFault;
-use amo_givens::{MAX_STEPS, MAX_TEXT};
+use amo_params::{MAX_STEPS, MAX_TEXT};
 use std::alloc::Global;
 
 /// The newest version of the format, 2.

@@ -1,13 +1,13 @@
 //! A plan as a value.
 ghost use Rattle.std.specs.Prelude.{◌≡◌, true, length};
 ghost use Rattle.std.specs.Int.{div_ceil};
-ghost use Rattle.amo_givens.specs.Moves.{are_in_range};
+ghost use Rattle.amo_params.specs.Moves.{are_in_range};
 ghost use Rattle.amo_plan.specs.Keeps.{is_form, all_fit};
 
 use crate::items::Items;
 use crate::task::Task;
 use crate::text::Text;
-use amo_givens::{Givens, Move};
+use amo_params::{Givens, Move};
 
 /// `Heads`: a plan without its tasks.
 #[derive(Debug, Drop)]

@@ -9,7 +9,7 @@ ghost use Rattle.amo_plan.specs.Keeps.{is_form};
 ghost use Rattle.amo_plan.specs.Plan.{document, or_bad_givens, plan_with, plan_in, plan_of};
 ghost use Rattle.amo_plan.specs.Seen.{top_seen};
 ghost use Rattle.amo_plan.specs.PlanSeen.{plan_seen};
-ghost use Rattle.amo_givens.specs.Givens.{givens_of};
+ghost use Rattle.amo_params.specs.Givens.{givens_of};
 
 use crate::fault::PlanFault;
 use crate::items::Items;
@@ -19,7 +19,7 @@ use crate::naming::{check_jobs, part_jobs};
 use crate::plan::{Heads, Plan};
 use crate::schedule::read_schedule;
 use crate::top::{Top, read_top};
-use amo_givens::Givens;
+use amo_params::Givens;
 use std::alloc::Global;
 use toml::Table;
 
@@ -102,7 +102,7 @@ fn plan_in(alloc: Global, table: &Table) -> Result<Plan, PlanFault>
 /// # Examples
 ///
 /// ```
-/// use amo_givens::Move;
+/// use amo_params::Move;
 /// use amo_plan::{PlanFault, read_plan};
 ///
 /// let text = "version = 1

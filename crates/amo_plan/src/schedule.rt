@@ -1,6 +1,6 @@
 //! Reading of a schedule.
 ghost use Rattle.std.specs.Prelude.{◌≡◌, ◌++◌, map, replicate, IfOk, OnOk};
-ghost use Rattle.amo_givens.specs.declared.moves.Move.TheVariants.{Turn};
+ghost use Rattle.amo_params.specs.declared.moves.Move.TheVariants.{Turn};
 ghost use Rattle.amo_plan.specs.Passing.{Gives};
 ghost use Rattle.amo_plan.specs.Schedule.{is_space, words_of, read_words, moves_of_word, short_moves_of, read_schedule};
 
@@ -8,7 +8,7 @@ use crate::fault::PlanFault;
 use crate::limits::MOST_MOVES;
 use crate::ordinal::ordinal_of;
 use crate::schedule_word::{ScheduleWord, word_at};
-use amo_givens::Move;
+use amo_params::Move;
 use std::alloc::{AllocError, Global};
 
 /// The byte parts words: space, tab, LF or CR, and no other.

@@ -4,12 +4,12 @@ use Rattle.std.specs.Prelude.{⊤, if◌then◌else◌, set}
 use Rattle.std.proofs.lemmas.Bool.{cases_eq}
 use Rattle.amo_sets.specs.Lists.{numbered, put}
 use Rattle.amo_sets.proofs.Numbers.{numbered-put_same, numbered-put_other, length-put, length-table}
-use Rattle.amo_givens.specs.Givens.{IsWorker}
+use Rattle.amo_params.specs.Givens.{IsWorker}
 use Rattle.amo_kk.specs.Record.{can_leave}
 use Rattle.amo_kk.specs.Words.{next_word}
 use Rattle.amo_sets.proofs.Tables.{numbered-table}
 use Rattle.amo_kk.specs.World.{process}
-use Rattle.amo_givens.specs.declared.givens.Givens.{Givens}
+use Rattle.amo_params.specs.declared.givens.Givens.{Givens}
 use Rattle.amo_restart.specs.declared.model.Tale.{Tale}
 use Rattle.amo_restart.specs.Return.{world_of_tale, tale_after_all, opening_tale}
 use Rattle.amo_restart.proofs.Tales.{IsTold, acts_told, opening_told}

@@ -5,14 +5,14 @@ use Rattle.amo_sets.specs.Lists.{numbered}
 use Rattle.std.proofs.lemmas.Bool.{true≢false, ne_eqb, eq-eqb, leb-true}
 use Rattle.std.proofs.lemmas.Option.{same_Some, none-some}
 use Rattle.std.proofs.lemmas.List.{length-append}
-use Rattle.amo_givens.specs.Givens.{IsWorker}
+use Rattle.amo_params.specs.Givens.{IsWorker}
 use Rattle.amo_kk.specs.Record.{wants_nothing}
 use Rattle.amo_kk.specs.Step.{want, want_in, is_load}
 use Rattle.amo_kk.specs.Again.{entries_of, are_own_words, record_of_dones, record_again}
 use Rattle.amo_kk.specs.Choice.{record_after_choice}
 use Rattle.amo_kk.specs.Words.{next_word, claim_word, done_word, words_after}
 use Rattle.amo_kk.specs.Machine.{LocalView}
-use Rattle.amo_givens.specs.declared.givens.Givens.{Givens}
+use Rattle.amo_params.specs.declared.givens.Givens.{Givens}
 use Rattle.amo_kk.specs.declared.model.Record.{Record}
 use Rattle.amo_kk.specs.declared.phase.Phase.{Phase}
 use Rattle.amo_kk.specs.declared.phase.Phase.TheVariants.{Announcing, Holding}

@@ -5,13 +5,13 @@ use Rattle.std.proofs.lemmas.Bool.{and_from, le-leb, eq-eqb, or_left, or_right}
 use Rattle.std.proofs.lemmas.List.{length-take-le, length_push}
 use Rattle.amo_sets.specs.Sets.{has, AreDistinct, with_number}
 use Rattle.amo_sets.proofs.Numbers.{has-append, has_with_cases}
-use Rattle.amo_givens.specs.Givens.{IsJob, IsWorker, is_within}
+use Rattle.amo_params.specs.Givens.{IsJob, IsWorker, is_within}
 use Rattle.amo_kk.specs.Record.{jobs_in_hand}
 use Rattle.amo_kk.specs.Again.{entries_of, set_of, are_new, are_own_words, record_again}
 use Rattle.amo_kk.specs.Words.{words_of, next_word, claim_word, done_word}
 use Rattle.amo_kk.specs.Lawful.{IsLawful, IsSoundProcess}
 use Rattle.amo_kk.specs.World.{nobody, process}
-use Rattle.amo_givens.specs.declared.givens.Givens.{Givens}
+use Rattle.amo_params.specs.declared.givens.Givens.{Givens}
 use Rattle.amo_kk.specs.declared.phase.Phase.TheVariants.{Holding}
 use Rattle.amo_kk.specs.declared.model.Process.{Process}
 use Rattle.amo_kk.specs.declared.model.World.{World}

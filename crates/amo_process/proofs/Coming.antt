@@ -4,12 +4,12 @@ use Rattle.std.specs.Prelude.{◌==◌, nat_le}
 use Rattle.std.proofs.lemmas.Bool.{true≢false}
 use Rattle.std.proofs.lemmas.Bool.Decides.{nat_tests}
 use Rattle.amo_sets.specs.Lists.{numbered}
-use Rattle.amo_givens.specs.Givens.{IsWorker, IsOther, IsJob, others_before}
+use Rattle.amo_params.specs.Givens.{IsWorker, IsOther, IsJob, others_before}
 use Rattle.amo_kk.specs.Record.{wants_nothing}
 use Rattle.amo_kk.specs.Step.{want, want_in}
 use Rattle.amo_kk.specs.Lawful.{IsLawful, FitsPhase}
 use Rattle.amo_kk.specs.World.{process, loaded_value}
-use Rattle.amo_givens.specs.declared.givens.Givens.{Givens}
+use Rattle.amo_params.specs.declared.givens.Givens.{Givens}
 use Rattle.amo_kk.specs.declared.model.World.{World}
 use Rattle.amo_kk.specs.declared.phase.Phase.{Phase}
 use Rattle.amo_kk.specs.declared.phase.Phase.TheVariants.{Trying, Reading, Over, Left}

@@ -4,13 +4,13 @@ use Rattle.std.specs.Prelude.{if◌then◌else◌, ◌==◌}
 use Rattle.std.proofs.lemmas.Bool.{true≢false, eq-eqb, or_left}
 use Rattle.std.proofs.lemmas.Option.{same_Some, none-some}
 use Rattle.amo_sets.specs.Sets.{has, with_number}
-use Rattle.amo_givens.specs.Givens.{IsJob, IsWorker}
+use Rattle.amo_params.specs.Givens.{IsJob, IsWorker}
 use Rattle.amo_kk.specs.Record.{wants_nothing, job_in_hand}
 use Rattle.amo_kk.specs.Choice.{chosen_job, record_after_choice}
 use Rattle.amo_kk.specs.Step.{want, want_in, record_after_phase, record_after}
 use Rattle.amo_kk.specs.Words.{next_word, claim_word, done_word}
 use Rattle.amo_kk.specs.Lawful.{IsSoundRecord, FitsPhase}
-use Rattle.amo_givens.specs.declared.givens.Givens.{Givens}
+use Rattle.amo_params.specs.declared.givens.Givens.{Givens}
 use Rattle.amo_kk.specs.declared.model.Record.{Record}
 use Rattle.amo_kk.specs.declared.phase.Phase.{Phase}
 use Rattle.amo_kk.specs.declared.phase.Phase.TheVariants.{Announcing, Trying, Reading, Claiming, Holding, Over}

@@ -6,13 +6,13 @@ use Rattle.std.proofs.lemmas.Bool.Decides.{nat_tests}
 use Rattle.std.proofs.lemmas.List.{length_push}
 use Rattle.std.proofs.lemmas.Option.{same_Some, none-some}
 use Rattle.amo_sets.specs.Sets.{has}
-use Rattle.amo_givens.specs.Givens.{IsWorker, is_within}
+use Rattle.amo_params.specs.Givens.{IsWorker, is_within}
 use Rattle.amo_kk.specs.Step.{want, record_after, MayLoad}
 use Rattle.amo_kk.specs.Again.{entries_of, are_new, are_own_words, record_again, set_of, record_of_dones}
 use Rattle.amo_kk.specs.Words.{done_word}
 use Rattle.amo_kk.specs.Lawful.{IsSoundRecord}
 use Rattle.amo_kk.specs.Machine.{LocalView}
-use Rattle.amo_givens.specs.declared.givens.Givens.{Givens}
+use Rattle.amo_params.specs.declared.givens.Givens.{Givens}
 use Rattle.amo_kk.specs.declared.model.Record.{Record}
 use Rattle.amo_kk.specs.declared.phase.Phase.TheVariants.{Holding}
 use Rattle.amo_kk.proofs.Again.{new_few, within_job}

@@ -5,12 +5,12 @@ use Rattle.std.proofs.lemmas.List.{map-append}
 use Rattle.amo_sets.specs.Lists.{numbered, table}
 use Rattle.amo_sets.proofs.Numbers.{length-table}
 use Rattle.amo_sets.proofs.Tables.{numbered-table}
-use Rattle.amo_givens.specs.Givens.{IsWorker}
+use Rattle.amo_params.specs.Givens.{IsWorker}
 use Rattle.amo_kk.specs.Again.{entries_of, record_again}
 use Rattle.amo_kk.specs.Record.{wants_nothing}
 use Rattle.amo_kk.proofs.OpenWords.{opening_words}
 use Rattle.amo_kk.specs.World.{nobody, process, first_process}
-use Rattle.amo_givens.specs.declared.givens.Givens.{Givens}
+use Rattle.amo_params.specs.declared.givens.Givens.{Givens}
 use Rattle.amo_kk.specs.declared.event.Event.{Event}
 use Rattle.amo_kk.specs.declared.event.Event.TheVariants.{Ended}
 use Rattle.amo_kk.specs.declared.model.Process.{Process}

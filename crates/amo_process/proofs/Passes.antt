@@ -7,13 +7,13 @@ use Rattle.std.proofs.lemmas.Option.{same_Some, none-some}
 use Rattle.amo_sets.specs.Lists.{numbered, put}
 use Rattle.amo_sets.specs.Sets.{with_number}
 use Rattle.amo_sets.proofs.Numbers.{numbered-put_same, numbered-put_other}
-use Rattle.amo_givens.specs.Givens.{IsWorker, IsOther, IsJob, next_other}
+use Rattle.amo_params.specs.Givens.{IsWorker, IsOther, IsJob, next_other}
 use Rattle.amo_kk.specs.Record.{job_in_hand}
 use Rattle.amo_kk.specs.Choice.{record_after_choice, record_after_check}
 use Rattle.amo_kk.specs.Step.{want, want_in, is_load, with_announced, record_at_row, record_at_announcement, record_after_phase, record_after}
 use Rattle.amo_kk.specs.Words.{next_word, claim_word, done_word}
 use Rattle.amo_kk.specs.Lawful.{IsSoundRecord, FitsPhase}
-use Rattle.amo_givens.specs.declared.givens.Givens.{Givens}
+use Rattle.amo_params.specs.declared.givens.Givens.{Givens}
 use Rattle.amo_kk.specs.declared.model.Record.{Record}
 use Rattle.amo_kk.specs.declared.phase.Phase.{Phase}
 use Rattle.amo_kk.specs.declared.phase.Phase.TheVariants.{Announcing, Trying, Reading, Claiming, Holding}

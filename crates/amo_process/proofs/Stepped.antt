@@ -9,7 +9,7 @@ use Rattle.amo_kk.specs.Step.{want, record_after}
 use Rattle.amo_kk.specs.Words.{next_word, done_word}
 use Rattle.amo_kk.specs.Again.{are_own_words, record_again}
 use Rattle.amo_kk.specs.Machine.{LocalView}
-use Rattle.amo_givens.specs.declared.givens.Givens.{Givens}
+use Rattle.amo_params.specs.declared.givens.Givens.{Givens}
 use Rattle.amo_process.specs.declared.standing.Standing.{Standing}
 use Rattle.amo_process.specs.declared.standing.Standing.TheVariants.{Beginning, Going}
 use Rattle.amo_process.specs.Heard.{can_hear, own_word, standing_in, standing_of}

@@ -5,14 +5,14 @@ use Rattle.std.proofs.lemmas.Bool.{true≢false, cases_eq, cases_lt, and_from, l
 use Rattle.std.proofs.lemmas.List.{take_more, take_all, length_push}
 use Rattle.amo_sets.specs.Lists.{numbered, put}
 use Rattle.amo_sets.proofs.Numbers.{numbered-put_same, numbered-put_other, length-put}
-use Rattle.amo_givens.specs.Givens.{IsWorker, is_within}
+use Rattle.amo_params.specs.Givens.{IsWorker, is_within}
 use Rattle.amo_kk.specs.Record.{wants_nothing, can_leave, job_in_hand}
 use Rattle.amo_kk.specs.Step.{want, record_after, record_after_leave, shown, events_of, ended_if_over}
 use Rattle.amo_kk.specs.Again.{entries_of, doubt}
 use Rattle.amo_kk.specs.Words.{words_of, loaded_word, next_word, words_after}
 use Rattle.amo_kk.specs.Lawful.{IsLawful}
 use Rattle.amo_kk.specs.World.{nobody, process, loaded_value, process_after, world_with, world_after_step, world_after_leave}
-use Rattle.amo_givens.specs.declared.givens.Givens.{Givens}
+use Rattle.amo_params.specs.declared.givens.Givens.{Givens}
 use Rattle.amo_kk.specs.declared.phase.Phase.{Phase}
 use Rattle.amo_kk.specs.declared.phase.Phase.TheVariants.{Over, Left}
 use Rattle.amo_kk.specs.declared.phase.Want.{Want}
@@ -21,7 +21,7 @@ use Rattle.amo_kk.specs.declared.model.Record.{Record}
 use Rattle.amo_kk.specs.declared.model.Process.{Process}
 use Rattle.amo_kk.specs.declared.model.World.{World}
 use Rattle.amo_kk.specs.declared.event.Event.TheVariants.{Left as LeftEvent}
-use Rattle.amo_givens.specs.declared.moves.Move.TheVariants.{Turn, Leave}
+use Rattle.amo_params.specs.declared.moves.Move.TheVariants.{Turn, Leave}
 use Rattle.amo_kk.proofs.Worlds.{put_here}
 use Rattle.amo_kk.proofs.Runs.{stored_local, stored_gone}
 use Rattle.amo_kk.proofs.Words.{turn_loads, turn_stores, leave_stores, keep_words}

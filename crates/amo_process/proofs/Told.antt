@@ -5,18 +5,18 @@ use Rattle.std.proofs.lemmas.Bool.{true≢false}
 use Rattle.std.proofs.Math.Seq.{drop-append_seam}
 use Rattle.amo_sets.specs.Lists.{numbered}
 use Rattle.amo_sets.proofs.Numbers.{numbered-put_same}
-use Rattle.amo_givens.specs.Givens.{bound, IsWorker, is_within}
+use Rattle.amo_params.specs.Givens.{bound, IsWorker, is_within}
 use Rattle.amo_kk.specs.Object.{first_object}
 use Rattle.amo_kk.specs.Record.{wants_nothing, is_over, job_in_hand}
 use Rattle.amo_kk.specs.Step.{record_after, record_after_phase}
 use Rattle.amo_kk.specs.Machine.{LocalView}
 use Rattle.amo_kk.specs.World.{process, done_count}
-use Rattle.amo_givens.specs.declared.givens.Givens.{Givens}
+use Rattle.amo_params.specs.declared.givens.Givens.{Givens}
 use Rattle.amo_kk.specs.declared.phase.Phase.{Phase}
 use Rattle.amo_kk.specs.declared.phase.Phase.TheVariants.{Claiming, Over, Left}
 use Rattle.amo_kk.specs.declared.model.Record.{Record}
 use Rattle.amo_kk.specs.declared.event.Event.TheVariants.{Claimed, Done, Ended, Halted, Left as LeftEvent}
-use Rattle.amo_givens.specs.declared.moves.Move.TheVariants.{Turn}
+use Rattle.amo_params.specs.declared.moves.Move.TheVariants.{Turn}
 use Rattle.amo_kk.proofs.Runs.{HasDone, has_done}
 use Rattle.amo_kk.proofs.Ends.{enough_done}
 use Rattle.amo_restart.specs.declared.model.Act.{Act}

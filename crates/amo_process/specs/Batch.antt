@@ -5,7 +5,7 @@ use Rattle.amo_sets.specs.Lists.{numbered}
 use Rattle.amo_kk.specs.Record.{wants_nothing}
 use Rattle.amo_kk.specs.Step.{want, is_load, record_after}
 use Rattle.amo_kk.specs.Words.{next_word, claim_word, done_word, word_count}
-use Rattle.amo_givens.specs.declared.givens.Givens.{Givens}
+use Rattle.amo_params.specs.declared.givens.Givens.{Givens}
 use Rattle.amo_kk.specs.declared.model.Record.{Record}
 use Rattle.amo_kk.specs.declared.phase.Want.{Want}
 use Rattle.amo_kk.specs.declared.phase.Want.TheVariants.{StoreNext, LoadNext, LoadDone, StoreClaim, StoreDone, Nothing}

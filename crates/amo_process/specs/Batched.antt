@@ -3,7 +3,7 @@
 -- in any order.
 use Rattle.std.specs.Prelude.{ℕ, List, [], ◌∷◌, Option, Some, None, slice_index}
 use Rattle.amo_sets.specs.Lists.{numbered, put, table}
-use Rattle.amo_givens.specs.declared.givens.Givens.{Givens}
+use Rattle.amo_params.specs.declared.givens.Givens.{Givens}
 use Rattle.amo_process.specs.declared.model.Happening.{Happening}
 use Rattle.amo_process.specs.declared.model.Happening.TheVariants.{Steps, Begins, Leaves}
 use Rattle.amo_process.specs.declared.standing.Standing.{Standing}

@@ -6,7 +6,7 @@ use Rattle.amo_kk.specs.Record.{job_in_hand}
 use Rattle.amo_kk.specs.Step.{want, record_after}
 use Rattle.amo_kk.specs.Again.{entries_of, are_own_words, record_again}
 use Rattle.amo_kk.specs.Words.{word_count, next_word, claim_word, done_word}
-use Rattle.amo_givens.specs.declared.givens.Givens.{Givens}
+use Rattle.amo_params.specs.declared.givens.Givens.{Givens}
 use Rattle.amo_kk.specs.declared.model.Record.{Record}
 use Rattle.amo_kk.specs.declared.phase.Want.{Want}
 use Rattle.amo_kk.specs.declared.phase.Want.TheVariants.{StoreNext, LoadNext, LoadDone, StoreClaim, StoreDone, Nothing}

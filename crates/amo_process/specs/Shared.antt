@@ -1,16 +1,16 @@
 -- Processes over one list of registers. Each knows only what it has read since it began.
 use Rattle.std.specs.Prelude.{◌≡◌, ◌≢◌, ⊤, ◌⊎◌, ℕ, ◌<◌, Bool, List, [], ◌∷◌, ◌++◌, Option, Some, None, set, slice_index, length, replicate, take, if◌then◌else◌}
 use Rattle.amo_sets.specs.Lists.{numbered, put, table}
-use Rattle.amo_givens.specs.Givens.{IsWorker}
+use Rattle.amo_params.specs.Givens.{IsWorker}
 use Rattle.amo_kk.specs.Record.{wants_nothing, can_leave}
 use Rattle.amo_kk.specs.Step.{want, is_load}
 use Rattle.amo_kk.specs.Words.{words_of, next_word, loaded_word, words_after, word_count}
 use Rattle.amo_kk.specs.Again.{entries_of}
 use Rattle.amo_kk.specs.World.{process}
-use Rattle.amo_givens.specs.declared.givens.Givens.{Givens}
+use Rattle.amo_params.specs.declared.givens.Givens.{Givens}
 use Rattle.amo_kk.specs.declared.phase.Want.{Want}
 use Rattle.amo_kk.specs.declared.model.Process.{Process}
-use Rattle.amo_givens.specs.declared.moves.Move.TheVariants.{Turn, Leave}
+use Rattle.amo_params.specs.declared.moves.Move.TheVariants.{Turn, Leave}
 use Rattle.amo_restart.specs.declared.model.Act.{Act}
 use Rattle.amo_restart.specs.declared.model.Act.TheVariants.{Moves, Returns}
 use Rattle.amo_restart.specs.declared.model.Tale.{Tale}

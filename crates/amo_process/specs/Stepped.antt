@@ -3,7 +3,7 @@ use Rattle.std.specs.Prelude.{⊤, ℕ, zero, suc, ◌<◌, Bool, true, false, L
 use Rattle.amo_kk.specs.Record.{is_over, can_leave}
 use Rattle.amo_kk.specs.Step.{want, record_after}
 use Rattle.amo_kk.specs.Words.{next_word, claim_word, done_word, word_count}
-use Rattle.amo_givens.specs.declared.givens.Givens.{Givens}
+use Rattle.amo_params.specs.declared.givens.Givens.{Givens}
 use Rattle.amo_kk.specs.declared.phase.Want.{Want}
 use Rattle.amo_kk.specs.declared.phase.Want.TheVariants.{StoreNext, LoadNext, LoadDone, StoreClaim, StoreDone, Nothing}
 use Rattle.amo_process.specs.Heard.{can_hear, standing_of}

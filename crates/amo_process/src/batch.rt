@@ -1,14 +1,14 @@
 //! Batches: all accesses that are known in advance.
 ghost use Rattle.std.specs.Prelude.{◌≡◌, ◌+◌, ◌*◌, ◌<◌, ◌≤◌, ◌++◌, ◌∷◌, [], IfOk, length};
 ghost use Rattle.std.specs.Vec.{vec_capacity};
-ghost use Rattle.amo_givens.specs.Givens.{IsWorker};
+ghost use Rattle.amo_params.specs.Givens.{IsWorker};
 ghost use Rattle.amo_kk.specs.Step.{want};
 ghost use Rattle.amo_process.specs.Heard.{IsOf};
 ghost use Rattle.amo_process.specs.Batch.{items_of, items_from, items_wanted, items_beginning, loads_above, rows_above, last_word};
 
 use crate::standing::{Standing, done_word};
-use amo_givens::Givens;
 use amo_kk::{Local, Want};
+use amo_params::Givens;
 use std::alloc::{AllocError, Global};
 
 /// `Item`: one access of a batch, or several loads. Give the process each value that was loaded,

@@ -1,8 +1,8 @@
 //! The theorems over batches. Nothing here runs: each function's contract is a theorem.
 ghost use Rattle.std.specs.Prelude.{◌≡◌, ◌≤◌, ◌+◌, ◌*◌, ◌++◌, ◌∷◌, [], ℕ, List, Some, length, if◌then◌else◌};
 ghost use Rattle.amo_sets.specs.Lists.{numbered};
-ghost use Rattle.amo_givens.specs.Givens.{IsWorker};
-ghost use Rattle.amo_givens.specs.declared.givens.Givens.{Givens};
+ghost use Rattle.amo_params.specs.Givens.{IsWorker};
+ghost use Rattle.amo_params.specs.declared.givens.Givens.{Givens};
 ghost use Rattle.amo_process.specs.declared.model.Happening.{Happening};
 ghost use Rattle.amo_process.specs.declared.model.Happening.TheVariants.{Steps};
 ghost use Rattle.amo_process.specs.declared.standing.Standing.{Standing};

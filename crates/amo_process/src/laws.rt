@@ -1,9 +1,9 @@
 //! The theorems over processes. Nothing here runs: each function's contract is a theorem.
 ghost use Rattle.std.specs.Prelude.{◌≡◌, ◌≤◌, ◌++◌, ℕ, true, Bool, List, Some};
-ghost use Rattle.amo_givens.specs.Givens.{bound, IsWorker};
+ghost use Rattle.amo_params.specs.Givens.{bound, IsWorker};
 ghost use Rattle.amo_kk.specs.Record.{is_over};
 ghost use Rattle.amo_kk.specs.Machine.{LocalView};
-ghost use Rattle.amo_givens.specs.declared.givens.Givens.{Givens};
+ghost use Rattle.amo_params.specs.declared.givens.Givens.{Givens};
 ghost use Rattle.amo_restart.specs.Return.{tale_of, filed_in};
 ghost use Rattle.amo_process.specs.declared.model.Happening.{Happening};
 ghost use Rattle.amo_process.specs.declared.standing.Standing.TheVariants.{Going};

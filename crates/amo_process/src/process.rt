@@ -1,7 +1,7 @@
 //! A process that is stepped: it keeps the state machine, and not the list of the values that it
 //! read.
 ghost use Rattle.std.specs.Prelude.{◌≡◌, ◌<◌, ◌≤◌, ◌+◌, true, false, IfOk, IfErr, option_to_list};
-ghost use Rattle.amo_givens.specs.Givens.{IsWorker};
+ghost use Rattle.amo_params.specs.Givens.{IsWorker};
 ghost use Rattle.amo_kk.specs.Fits.{WantFits};
 ghost use Rattle.amo_kk.specs.Record.{job_in_hand};
 ghost use Rattle.amo_kk.specs.Words.{next_word, word_count};
@@ -14,8 +14,8 @@ use crate::access::Access;
 use crate::batch::{Item, add_wanted, items_beginning, room_for};
 use crate::stage::Stage;
 use crate::standing::{NoSuchNumber, done_word};
-use amo_givens::Givens;
 use amo_kk::{Local, Want};
+use amo_params::Givens;
 use std::alloc::{AllocError, Global};
 use std::marker::Model;
 use std::mem;

@@ -8,8 +8,8 @@ ghost use Rattle.amo_process.specs.Stepped.{own_after, standing_after};
 ghost use Rattle.amo_process.specs.Stage.{standing_in_stage, IsLoading, StageFits};
 
 use crate::standing::hear;
-use amo_givens::Givens;
 use amo_kk::{Local, NoSuchWords};
+use amo_params::Givens;
 
 /// `Stage`: how far a process has come.
 #[derive(Drop)]

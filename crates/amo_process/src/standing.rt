@@ -1,14 +1,14 @@
 //! The standing of a worker whose process knows only what it has read.
 ghost use Rattle.std.specs.Prelude.{◌≡◌, ◌+◌, ◌<◌, ◌≤◌, Some, None, true, false, IfOk, IfErr, IfSome, IfNone, length, take, drop};
-ghost use Rattle.amo_givens.specs.Givens.{IsWorker};
+ghost use Rattle.amo_params.specs.Givens.{IsWorker};
 ghost use Rattle.amo_kk.specs.Choice.{first_record};
 ghost use Rattle.amo_kk.specs.Step.{want, record_after};
 ghost use Rattle.amo_kk.specs.Again.{entries_of};
 ghost use Rattle.amo_kk.specs.Words.{done_word, word_count};
 ghost use Rattle.amo_process.specs.Heard.{can_hear, record_after_all, rest_of, standing_in, standing_of, IsOf};
 
-use amo_givens::Givens;
 use amo_kk::{Local, NoSuchWords, Want};
+use amo_params::Givens;
 use thiserror::Error;
 
 /// `Standing`: the state of a worker, computed from the values that its process has read.

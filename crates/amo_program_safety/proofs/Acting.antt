@@ -2,7 +2,7 @@
 -- site follows.
 use Rattle.std.proofs.Common.{◌≡◌, inl, inr, ⊎_elim, ℕ, List, [], ◌∷◌, ◌++◌, Option, Some, None, refl, sym, ap, ◌∙◌, subst}
 use Rattle.std.proofs.lemmas.Bool.{cases_eq}
-use Rattle.amo_clearance_safety.specs.Model.{Attempt as Name, IsOneOf, Away, Free, Site, site_after, Dies, Begins, Lands, Intends, Looks, Opens, line_of}
+use Rattle.amo_safety_by_journals.specs.Model.{Attempt as Name, IsOneOf, Away, Free, Site, site_after, Dies, Begins, Lands, Intends, Looks, Opens, line_of}
 use Rattle.amo_host.specs.declared.model.LogFile.TheVariants.{Journal}
 use Rattle.amo_host.specs.Calls.{Call, Request}
 use Rattle.amo_program_safety.specs.Texts.{lines_in}

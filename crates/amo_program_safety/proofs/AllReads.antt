@@ -3,8 +3,8 @@ use Rattle.std.proofs.Common.{◌≡◌, ◌⊎◌, inl, inr, ⊎_elim, ◌≤�
 use Rattle.std.specs.Prelude.{Bool, true, false, slice_get, nat_lt}
 use Rattle.std.proofs.lemmas.Bool.{cases_eq}
 use Rattle.std.proofs.lemmas.List.{length-map}
-use Rattle.amo_clearance_safety.specs.Model.{IsOneOf, Site}
-use Rattle.amo_givens.specs.declared.limits.TheConstants.{MAX_WORKERS}
+use Rattle.amo_safety_by_journals.specs.Model.{IsOneOf, Site}
+use Rattle.amo_params.specs.declared.limits.TheConstants.{MAX_WORKERS}
 use Rattle.amo_host.specs.declared.model.LogFile.{LogFile}
 use Rattle.amo_host.specs.declared.model.LogFile.TheVariants.{Answers, Journal}
 use Rattle.amo_host.specs.Calls.{Call, ReadLog, LogIs, Fell, request_of}

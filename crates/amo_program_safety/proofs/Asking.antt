@@ -2,8 +2,8 @@
 use Rattle.std.proofs.Common.{◌≡◌, ◌⊎◌, inl, inr, ⊎_elim, ℕ, Bool, true, false, List, [], ◌∷◌, ◌++◌, Option, Some, None, refl, sym, ap, ◌∙◌, subst, append-nil}
 use Rattle.std.specs.Prelude.{if◌then◌else◌}
 use Rattle.std.proofs.lemmas.Bool.{cases_eq, eq-eqb, ne_eqb}
-use Rattle.amo_clearance_safety.specs.Model.{Attempt as Name, Handing, IsOneOf, Away, Free, Clearing as ModelClearing, Site, site_after, Dies, Opens, line_of}
-use Rattle.amo_clearance_safety.specs.Runs.{IsOver as IsOverThere}
+use Rattle.amo_safety_by_journals.specs.Model.{Attempt as Name, Handing, IsOneOf, Away, Free, Clearing as ModelClearing, Site, site_after, Dies, Opens, line_of}
+use Rattle.amo_safety_by_journals.specs.Runs.{IsOver as IsOverThere}
 use Rattle.amo_driver.specs.declared.answer.JobResult.{JobResult}
 use Rattle.amo_driver.specs.declared.answer.JobResult.TheVariants.{Done, Doubt, Unbegun, Untouched}
 use Rattle.amo_driver.specs.declared.answer.Reply.{Reply}
@@ -23,8 +23,8 @@ use Rattle.amo_host.specs.declared.model.RunLock.TheVariants.{Round}
 use Rattle.amo_host.specs.Calls.{Request, TryLock, Put, Say, Call, Tried, HasPut, Heard, Fell, request_of}
 use Rattle.amo_host.specs.Phase.{Identity, Phase, Asks}
 use Rattle.amo_host.specs.Protocol.{CarriesOutBefore, MayTryRound, outcome_entry, phase_after}
-use Rattle.amo_protocol.specs.Lines.{reply_heard}
-use Rattle.amo_protocol.specs.Sayings.{was_text}
+use Rattle.amo_runner_protocol.specs.Lines.{reply_heard}
+use Rattle.amo_runner_protocol.specs.Sayings.{was_text}
 use Rattle.amo_run_log.specs.declared.entry.Entry.{Entry}
 use Rattle.amo_run_log.specs.Entries.{FitsAppend}
 use Rattle.amo_run_log.specs.Open.{IsAnswer}

@@ -1,8 +1,8 @@
 -- A run of workers and commands is a run of the model by journals alone.
 use Rattle.std.proofs.Common.{◌≡◌, ℕ, List, [], ◌∷◌, ◌++◌, map, sym, subst}
-use Rattle.amo_clearance_safety.specs.Model.{AreDistinct, Handing, Site, first_site, Event as ModelEvent}
-use Rattle.amo_clearance_safety.specs.Runs.{Clearance, IsRun as IsModelRun, site_from, site_of}
-use Rattle.amo_givens.specs.declared.limits.TheConstants.{MAX_WORKERS}
+use Rattle.amo_safety_by_journals.specs.Model.{AreDistinct, Handing, Site, first_site, Event as ModelEvent}
+use Rattle.amo_safety_by_journals.specs.Runs.{Clearance, IsRun as IsModelRun, site_from, site_of}
+use Rattle.amo_params.specs.declared.limits.TheConstants.{MAX_WORKERS}
 use Rattle.amo_operator.specs.Calls.{Request, Call}
 use Rattle.amo_program_safety.specs.Machine.{Machine, Step, Happens, Begins, Exits, Drops, Enters, Records, Calls, Dies, machine_after, first_machine}
 use Rattle.amo_program_safety.specs.Steps.{MayFollow, IsRun, IsRunFrom, machine_from, machine_of}

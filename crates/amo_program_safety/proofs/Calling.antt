@@ -1,7 +1,7 @@
 -- The calls of a process in any phase.
 use Rattle.std.proofs.Common.{◌≡◌, ⊎_elim, ℕ, List, [], ◌∷◌, Some, refl, sym, subst}
 use Rattle.std.specs.Prelude.{Bool}
-use Rattle.amo_clearance_safety.specs.Model.{Site, site_after, Away, Dies}
+use Rattle.amo_safety_by_journals.specs.Model.{Site, site_after, Away, Dies}
 use Rattle.amo_driver.specs.Course.{due}
 use Rattle.amo_driver.specs.Stage.{Stage, Going, Finding, Intending, Clearing, Performing, Noting, Leaving, Gone, Unanswered, Refused, Broken}
 use Rattle.amo_driver.specs.declared.answer.JobResult.TheVariants.{Unbegun}

@@ -2,14 +2,14 @@
 use Rattle.std.proofs.Common.{◌≡◌, ◌⊎◌, inl, inr, ⊎_elim, ◌≤◌, ◌<◌, ℕ, zero, suc, ◌+◌, arith, List, [], ◌∷◌, ◌++◌, length, map, take, Option, Some, None, refl, sym, ap, ◌∙◌, subst, append-nil}
 use Rattle.std.specs.Prelude.{Bool, true, false, not, slice_get}
 use Rattle.std.proofs.lemmas.Bool.{cases_eq}
-use Rattle.amo_clearance_safety.specs.Model.{Attempt as Name, IsOneOf, Away, Free, Clearing as ModelClearing, Site, site_after, Event as ModelEvent, Dies, Looks, looked, line_of}
-use Rattle.amo_clearance_safety.specs.Runs.{Clearance, IsClear, HasSeenAll, IsRunFrom, site_from}
+use Rattle.amo_safety_by_journals.specs.Model.{Attempt as Name, IsOneOf, Away, Free, Clearing as ModelClearing, Site, site_after, Event as ModelEvent, Dies, Looks, looked, line_of}
+use Rattle.amo_safety_by_journals.specs.Runs.{Clearance, IsClear, HasSeenAll, IsRunFrom, site_from}
 use Rattle.amo_driver.specs.Course.{due, stage_cleared}
 use Rattle.amo_driver.specs.Stage.{Clearing}
 use Rattle.amo_driver.specs.declared.answer.JobResult.TheVariants.{Unbegun}
 use Rattle.amo_driver.specs.declared.model.Try.{Try}
 use Rattle.amo_driver.specs.declared.model.Try.TheVariants.{Clear}
-use Rattle.amo_givens.specs.declared.limits.TheConstants.{MAX_WORKERS}
+use Rattle.amo_params.specs.declared.limits.TheConstants.{MAX_WORKERS}
 use Rattle.amo_host.specs.declared.model.LogFile.{LogFile}
 use Rattle.amo_host.specs.declared.model.LogFile.TheVariants.{Answers, Journal}
 use Rattle.amo_host.specs.Calls.{Call, Request, ReadOn, Put, Pay, Unlock, HasRead, HasPut, Fell, request_of}

@@ -1,7 +1,7 @@
 -- The steps of an operator's command: its appends and its calls.
 use Rattle.std.proofs.Common.{◌≡◌, inl, inr, ⊎_elim, ◌≤◌, ◌<◌, ◌-◌, ◌+◌, ◌^◌, ℕ, suc, true, false, List, [], ◌∷◌, ◌++◌, length, take, Option, Some, None, refl, sym, ap, ◌∙◌, subst, arith}
 use Rattle.std.specs.Prelude.{slice_get, slice_set}
-use Rattle.amo_clearance_safety.specs.Model.{Site, line_of, with_at}
+use Rattle.amo_safety_by_journals.specs.Model.{Site, line_of, with_at}
 use Rattle.amo_host.specs.declared.model.LogFile.{LogFile}
 use Rattle.amo_host.specs.declared.model.LogFile.TheVariants.{Answers, Journal as JournalFile}
 use Rattle.amo_run_files.specs.declared.round_file.RoundFile.{RoundFile}

@@ -2,7 +2,7 @@
 use Rattle.std.proofs.Common.{◌≡◌, ◌⊎◌, ⊎_elim, ◌≤◌, ℕ, zero, List, [], Some, None, sym, ap, ◌∙◌, subst}
 use Rattle.std.proofs.lemmas.Bool.{cases_eq}
 use native.Mathlib.Omega.{arith}
-use Rattle.amo_clearance_safety.specs.Model.{Handing, IsOneOf, Away, Site, with_at, line_of}
+use Rattle.amo_safety_by_journals.specs.Model.{Handing, IsOneOf, Away, Site, with_at, line_of}
 use Rattle.amo_host.specs.declared.model.LogFile.TheVariants.{Answers, Journal}
 use Rattle.amo_run_log.specs.declared.entry.Entry.TheVariants.{Answer as Answered}
 use Rattle.amo_run_log.specs.declared.entry.Outcome.{Outcome}

@@ -1,7 +1,7 @@
 -- An attempt that a command records as in doubt is final on this machine.
 use Rattle.std.proofs.Common.{◌≡◌, ⊎_elim, ℕ, List, [], ◌∷◌, Some, None, sym, ap, ◌∙◌, subst}
-use Rattle.amo_clearance_safety.specs.Model.{IsOneOf, Site, first_site}
-use Rattle.amo_clearance_safety.specs.Runs.{site_from}
+use Rattle.amo_safety_by_journals.specs.Model.{IsOneOf, Site, first_site}
+use Rattle.amo_safety_by_journals.specs.Runs.{site_from}
 use Rattle.amo_driver.specs.Stage.{Stage, Clearing, Performing}
 use Rattle.amo_host.specs.Phase.{Phase as WorkerPhase, Works, Clears}
 use Rattle.amo_status.specs.declared.state.AttemptId.{AttemptId}

@@ -1,7 +1,7 @@
 -- An attempt that is final on a machine stays so.
 use Rattle.std.proofs.Common.{◌≡◌, ⊎_elim, ℕ, List, [], ◌∷◌, ◌++◌, Option, Some, None, refl, sym, ap, ◌∙◌, subst}
-use Rattle.amo_clearance_safety.specs.Model.{Handing, IsOneOf, Clearing as ModelClearing, Site, with_at}
-use Rattle.amo_clearance_safety.specs.Runs.{site_from}
+use Rattle.amo_safety_by_journals.specs.Model.{Handing, IsOneOf, Clearing as ModelClearing, Site, with_at}
+use Rattle.amo_safety_by_journals.specs.Runs.{site_from}
 use Rattle.amo_driver.specs.Stage.{Stage, Clearing}
 use Rattle.amo_host.specs.Calls.{Request as WorkerRequest, Call as WorkerCall}
 use Rattle.amo_host.specs.Phase.{Phase as WorkerPhase, Works}

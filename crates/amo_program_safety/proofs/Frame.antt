@@ -2,7 +2,7 @@
 use Rattle.std.proofs.Common.{◌≡◌, inl, inr, ⊎_elim, ℕ, suc, List, length, Option, Some, None, refl, sym, ap, ◌∙◌, subst}
 use Rattle.std.specs.Prelude.{if◌then◌else◌}
 use Rattle.std.proofs.lemmas.Bool.{cases_eq, eq-eqb, ne_eqb}
-use Rattle.amo_clearance_safety.specs.Model.{Site, line_of}
+use Rattle.amo_safety_by_journals.specs.Model.{Site, line_of}
 use Rattle.amo_driver.specs.Stage.{Stage, Going, Finding, Intending, Clearing, Performing, Noting, Leaving, Asking, Settling, Dismissed, Gone, Unanswered, Refused, Broken}
 use Rattle.amo_driver.specs.declared.answer.JobResult.{JobResult}
 use Rattle.amo_driver.specs.declared.past.Intent.{Intent as Pending}

@@ -4,7 +4,7 @@ use Rattle.std.proofs.Common.{◌≡◌, ◌⊎◌, inl, inr, ⊎_elim, ℕ, zer
 use Rattle.std.specs.Prelude.{slice_get, slice_set, ◌-◌, ◌==◌, not, is_some, nat_le}
 use Rattle.std.specs.List.{list_all, list_any}
 use Rattle.std.proofs.lemmas.Bool.{and_parts}
-use Rattle.amo_clearance_safety.specs.Model.{IsOneOf, line_of}
+use Rattle.amo_safety_by_journals.specs.Model.{IsOneOf, line_of}
 use Rattle.amo_run_files.specs.Jobs.{line_of as text_of_line}
 use Rattle.amo_run_log.specs.declared.entry.Entry.{Entry}
 use Rattle.amo_run_log.specs.declared.entry.Entry.TheVariants.{Intent, Answer as Answered}

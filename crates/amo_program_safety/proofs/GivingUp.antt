@@ -1,9 +1,9 @@
 -- A process gives up an attempt that was never handed over. The attempt is opened, and the process
 -- attempts no line.
 use Rattle.std.proofs.Common.{◌≡◌, inl, ◌≤◌, ℕ, List, [], ◌∷◌, Some, refl, sym, ap, ◌∙◌, subst}
-use Rattle.amo_clearance_safety.specs.Model.{Attempt as Name, Handing, IsOneOf, Away, Free, Clearing as ModelClearing, Site, site_after, Event as ModelEvent, Dies, Begins, Opens, line_of}
-use Rattle.amo_clearance_safety.specs.Runs.{Clearance, IsRunFrom, site_from, IsOver as IsOverThere}
-use Rattle.amo_givens.specs.declared.limits.TheConstants.{MAX_WORKERS}
+use Rattle.amo_safety_by_journals.specs.Model.{Attempt as Name, Handing, IsOneOf, Away, Free, Clearing as ModelClearing, Site, site_after, Event as ModelEvent, Dies, Begins, Opens, line_of}
+use Rattle.amo_safety_by_journals.specs.Runs.{Clearance, IsRunFrom, site_from, IsOver as IsOverThere}
+use Rattle.amo_params.specs.declared.limits.TheConstants.{MAX_WORKERS}
 use Rattle.amo_host.specs.declared.model.LogFile.TheVariants.{Journal}
 use Rattle.amo_host.specs.Calls.{Call}
 use Rattle.amo_program_safety.specs.World.{Process, World, journal_by, guard_by, process_by, called}

@@ -4,9 +4,9 @@ use Rattle.std.proofs.Common.{◌≡◌, ◌⊎◌, inl, inr, ⊎_elim, ◌≤�
 use Rattle.std.specs.Prelude.{if◌then◌else◌}
 use Rattle.std.proofs.lemmas.Bool.{cases_eq, cases_lt, eq-eqb, ne_eqb}
 use Rattle.std.proofs.lemmas.List.{take-append-drop}
-use Rattle.amo_clearance_safety.specs.Model.{Attempt as Name, Handing, IsOneOf, Stage as ModelStage, Away, Free, Clearing as ModelClearing, Site, Event as ModelEvent, Dies as ModelDies, Lands, HandsOver as ModelHandsOver, Performs as ModelPerforms, Ends as ModelEnds, with_at, in_hand, site_after, line_of}
-use Rattle.amo_clearance_safety.specs.Runs.{Clearance, IsRunFrom, site_from}
-use Rattle.amo_givens.specs.declared.limits.TheConstants.{MAX_WORKERS}
+use Rattle.amo_safety_by_journals.specs.Model.{Attempt as Name, Handing, IsOneOf, Stage as ModelStage, Away, Free, Clearing as ModelClearing, Site, Event as ModelEvent, Dies as ModelDies, Lands, HandsOver as ModelHandsOver, Performs as ModelPerforms, Ends as ModelEnds, with_at, in_hand, site_after, line_of}
+use Rattle.amo_safety_by_journals.specs.Runs.{Clearance, IsRunFrom, site_from}
+use Rattle.amo_params.specs.declared.limits.TheConstants.{MAX_WORKERS}
 use Rattle.amo_host.specs.declared.model.LogFile.{LogFile}
 use Rattle.amo_host.specs.declared.model.LogFile.TheVariants.{Answers, Journal}
 use Rattle.amo_run_log.specs.declared.append.Append.TheVariants.{One}

@@ -1,7 +1,7 @@
 -- How a process comes to hold an attempt: an intent comes first.
 use Rattle.std.proofs.Common.{◌≡◌, ◌⊎◌, inl, inr, ℕ, zero, suc, List, [], ◌∷◌, Option, Some, None, refl}
 use Rattle.std.specs.Prelude.{Bool, true, false, ◌==◌, ◌+◌, if◌then◌else◌}
-use Rattle.amo_givens.specs.declared.limits.TheConstants.{MAX_WORKERS}
+use Rattle.amo_params.specs.declared.limits.TheConstants.{MAX_WORKERS}
 use Rattle.amo_process.specs.Heard.{told_by, doubted_by}
 use Rattle.amo_process.specs.Stepped.{ProcessView, process_after, may_leave, is_refused}
 use Rattle.amo_driver.specs.Course.{due, stage_after, stage_cleared, stage_heard, stage_by_jobs, stage_told, stage_replied, stage_asking, stage_asked}

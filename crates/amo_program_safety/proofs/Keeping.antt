@@ -1,8 +1,8 @@
 -- No process may hand over an attempt whose outcome is on the disk.
 use Rattle.std.proofs.Common.{◌≡◌, ◌⊎◌, inl, inr, ⊎_elim, ℕ, List, [], ◌∷◌, Option, Some, None, refl, sym, ap, ◌∙◌, subst}
 use Rattle.std.specs.Prelude.{⊤}
-use Rattle.amo_clearance_safety.specs.Model.{IsOneOf, Site, first_site, with_at}
-use Rattle.amo_clearance_safety.specs.Runs.{site_from}
+use Rattle.amo_safety_by_journals.specs.Model.{IsOneOf, Site, first_site, with_at}
+use Rattle.amo_safety_by_journals.specs.Runs.{site_from}
 use Rattle.amo_driver.specs.Stage.{Stage, Going, Finding, Intending, Clearing, Performing, Noting, Leaving, Asking, Settling, Dismissed, Gone, Unanswered, Refused, Broken}
 use Rattle.amo_host.specs.declared.model.Hold.{Hold}
 use Rattle.amo_host.specs.declared.model.LogFile.{LogFile}

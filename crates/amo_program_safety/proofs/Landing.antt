@@ -1,8 +1,8 @@
 -- Intents that come into a journal while no process has the lock on it.
 use Rattle.std.proofs.Common.{◌≡◌, ℕ, List, [], ◌∷◌, ◌++◌, refl, sym, ap, ◌∙◌, append_assoc, append-nil}
-use Rattle.amo_clearance_safety.specs.Model.{Away, Site, site_after, Event as ModelEvent, Lands}
-use Rattle.amo_clearance_safety.specs.Runs.{Clearance, IsRunFrom, site_from}
-use Rattle.amo_givens.specs.declared.limits.TheConstants.{MAX_WORKERS}
+use Rattle.amo_safety_by_journals.specs.Model.{Away, Site, site_after, Event as ModelEvent, Lands}
+use Rattle.amo_safety_by_journals.specs.Runs.{Clearance, IsRunFrom, site_from}
+use Rattle.amo_params.specs.declared.limits.TheConstants.{MAX_WORKERS}
 use Rattle.amo_program_safety.proofs.Points.{at_it}
 use Rattle.amo_program_safety.proofs.Acting.{Turns, turns_none, turns_then, turns_lands}
 

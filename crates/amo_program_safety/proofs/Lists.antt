@@ -3,11 +3,11 @@
 use Rattle.std.proofs.Common.{◌≡◌, ◌⊎◌, inl, inr, ⊎_elim, ℕ, zero, suc, ◌<◌, ◌≤◌, ◌^◌, List, [], ◌∷◌, ◌++◌, length, map, Option, Some, None, refl, sym, ap, ◌∙◌, subst, arith}
 use Rattle.std.specs.Prelude.{Bool, true, false, Result, Ok, Err}
 use Rattle.std.proofs.lemmas.Option.{slice_get_cases}
-use Rattle.amo_clearance_safety.specs.Model.{Handing, AreDistinct, IsOneOf, with_at}
-use Rattle.amo_givens.specs.declared.givens.Givens.{Givens}
-use Rattle.amo_givens.specs.declared.givens.GivensFault.{GivensFault}
-use Rattle.amo_givens.specs.declared.limits.TheConstants.{MAX_WORKERS}
-use Rattle.amo_givens.specs.Givens.{givens_of}
+use Rattle.amo_safety_by_journals.specs.Model.{Handing, AreDistinct, IsOneOf, with_at}
+use Rattle.amo_params.specs.declared.givens.Givens.{Givens}
+use Rattle.amo_params.specs.declared.givens.GivensFault.{GivensFault}
+use Rattle.amo_params.specs.declared.limits.TheConstants.{MAX_WORKERS}
+use Rattle.amo_params.specs.Givens.{givens_of}
 use Rattle.amo_process.specs.Stepped.{ProcessView}
 use Rattle.amo_driver.specs.Stage.{Stage, Clearing}
 use Rattle.amo_driver.specs.declared.model.Try.{Try}
@@ -24,8 +24,8 @@ use Rattle.amo_host.specs.Phase.{Identity, Join, Locked, Booted, HasHeader, HasJ
 use Rattle.amo_host.specs.Protocol.{CarriesOut, reads_on, reads_first, unread, fails, works_on, clears_on, asks_on, phase_after, Allows}
 use Rattle.amo_host.specs.Reading.{reads_all, reads_more, reads_after}
 use Rattle.amo_operator.specs.Calls.{Request as CommandRequest, PutDoubt, PutAnswer, Call as CommandCall}
-use Rattle.amo_protocol.specs.Sayings.{perform_text}
-use Rattle.amo_protocol.proofs.SayingTexts.{over_differs}
+use Rattle.amo_runner_protocol.specs.Sayings.{perform_text}
+use Rattle.amo_runner_protocol.proofs.SayingTexts.{over_differs}
 use Rattle.amo_program_safety.specs.World.{Process, World, Event, Starts as ProcessStarts, Writes, HandsOver, Calls as EventCalls, Dies as ProcessDies, Stops, Performs, Ends, Doubts, Resolves, Recovers, new_process, process_by, handing_of, written, called, world_after}
 use Rattle.amo_program_safety.specs.Runs.{MayFollow as MayCome}
 use Rattle.amo_program_safety.specs.Machine.{Operator, Machine, Step, Happens, Begins as CommandBegins, Exits, Drops, Enters, Records, Calls, Dies, recorded, called as command_called, has_recorded, happened, machine_after, first_machine}

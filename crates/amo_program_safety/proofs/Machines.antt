@@ -2,8 +2,8 @@
 -- model has events that lead to a site that goes with the machine.
 use Rattle.std.proofs.Common.{◌≡◌, ℕ, List, [], ◌∷◌, Option, Some, None, refl, sym, ap, ◌∙◌, subst}
 use Rattle.std.specs.Prelude.{true, false}
-use Rattle.amo_clearance_safety.specs.Model.{Handing, Site}
-use Rattle.amo_clearance_safety.specs.Runs.{site_from}
+use Rattle.amo_safety_by_journals.specs.Model.{Handing, Site}
+use Rattle.amo_safety_by_journals.specs.Runs.{site_from}
 use Rattle.amo_host.specs.declared.model.RunLock.TheVariants.{Guard}
 use Rattle.amo_host.specs.Calls.{Request as WorkerRequest, Call as WorkerCall, Tried}
 use Rattle.amo_operator.specs.declared.model.Command.{Command}

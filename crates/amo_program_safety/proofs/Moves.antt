@@ -1,8 +1,8 @@
 -- Steps of a world, and of the site that goes with it.
 use Rattle.std.proofs.Common.{◌≡◌, ℕ, List, Some}
-use Rattle.amo_clearance_safety.specs.Model.{Handing, IsOneOf, Site, Event as ModelEvent}
-use Rattle.amo_clearance_safety.specs.Runs.{Clearance, IsRunFrom, site_from}
-use Rattle.amo_givens.specs.declared.limits.TheConstants.{MAX_WORKERS}
+use Rattle.amo_safety_by_journals.specs.Model.{Handing, IsOneOf, Site, Event as ModelEvent}
+use Rattle.amo_safety_by_journals.specs.Runs.{Clearance, IsRunFrom, site_from}
+use Rattle.amo_params.specs.declared.limits.TheConstants.{MAX_WORKERS}
 use Rattle.amo_host.specs.declared.model.LogFile.TheVariants.{Journal}
 use Rattle.amo_program_safety.specs.World.{Process, World}
 use Rattle.amo_program_safety.specs.Runs.{IsFirst}

@@ -3,7 +3,7 @@
 use Rattle.std.proofs.Common.{◌≡◌, ◌⊎◌, inl, inr, ⊎_elim, sym, ap, ◌∙◌, subst, ℕ, zero, suc, List, [], ◌∷◌, Option, Some, None, refl}
 use Rattle.std.specs.Prelude.{Bool, true, false, ◌==◌, ◌+◌, if◌then◌else◌}
 use Rattle.std.proofs.lemmas.Bool.{cases_eq, eq-eqb, ne_eqb}
-use Rattle.amo_givens.specs.declared.limits.TheConstants.{MAX_WORKERS}
+use Rattle.amo_params.specs.declared.limits.TheConstants.{MAX_WORKERS}
 use Rattle.amo_process.specs.Heard.{told_by, doubted_by}
 use Rattle.amo_process.specs.Stepped.{ProcessView, process_after, may_leave, is_refused}
 use Rattle.amo_driver.specs.Course.{due, stage_after, stage_cleared, stage_heard, stage_by_jobs, stage_told, stage_replied, stage_asking, stage_asked}
@@ -24,7 +24,7 @@ use Rattle.amo_host.specs.Calls.{Request, TryLock, Put, Owe, Pay, ReadOn, Call, 
 use Rattle.amo_host.specs.Logs.{Logs, journals_from, logs_after, others}
 use Rattle.amo_host.specs.Phase.{Identity, Phase, Starts, Asks, Idle, Begins, Joins, Reads, Works, Clears, Unclear, Over, Stays, Ended}
 use Rattle.amo_host.specs.Protocol.{line_at, effect_of, stage_by, job_is_clear, reads_on, reads_first, unread, fails, phase_after}
-use Rattle.amo_protocol.specs.Lines.{reply_heard}
+use Rattle.amo_runner_protocol.specs.Lines.{reply_heard}
 use Rattle.amo_program_safety.proofs.Holding.{HasPutIt}
 use Rattle.amo_program_safety.proofs.Outside.{IsBefore, StaysBefore, none_before}
 

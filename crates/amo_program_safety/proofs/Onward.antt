@@ -2,7 +2,7 @@
 use Rattle.std.proofs.Common.{◌≡◌, ◌⊎◌, inl, inr, ⊎_elim, ◌≤◌, ◌<◌, ◌-◌, ◌+◌, ℕ, zero, suc, Bool, true, false, List, [], ◌∷◌, ◌++◌, length, Option, Some, None, refl, sym, ap, ◌∙◌, subst, arith}
 use Rattle.std.specs.Prelude.{slice_get, slice_set}
 use Rattle.std.proofs.lemmas.List.{length-append}
-use Rattle.amo_clearance_safety.specs.Model.{IsOneOf, Away, Clearing as ModelClearing, Site, line_of}
+use Rattle.amo_safety_by_journals.specs.Model.{IsOneOf, Away, Clearing as ModelClearing, Site, line_of}
 use Rattle.amo_host.specs.declared.model.LogFile.{LogFile}
 use Rattle.amo_host.specs.declared.model.LogFile.TheVariants.{Journal as JournalFile}
 use Rattle.amo_run_files.specs.declared.round_file.RoundFile.{RoundFile}

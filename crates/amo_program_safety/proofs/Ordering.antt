@@ -1,9 +1,9 @@
 -- Facts about operators' commands on a machine whose world goes with a site.
 use Rattle.std.proofs.Common.{◌≡◌, ◌≤◌, ◌<◌, ◌-◌, ℕ, suc, List, [], length, Some, None}
 use Rattle.std.specs.Prelude.{⊤, slice_get}
-use Rattle.amo_clearance_safety.specs.Model.{IsOneOf, Site, Event as ModelEvent, line_of}
-use Rattle.amo_clearance_safety.specs.Runs.{Clearance, IsRunFrom, site_from}
-use Rattle.amo_givens.specs.declared.limits.TheConstants.{MAX_WORKERS}
+use Rattle.amo_safety_by_journals.specs.Model.{IsOneOf, Site, Event as ModelEvent, line_of}
+use Rattle.amo_safety_by_journals.specs.Runs.{Clearance, IsRunFrom, site_from}
+use Rattle.amo_params.specs.declared.limits.TheConstants.{MAX_WORKERS}
 use Rattle.amo_run_log.specs.declared.entry.Entry.TheVariants.{Answer as Answered}
 use Rattle.amo_run_log.specs.declared.entry.Outcome.{Outcome}
 use Rattle.amo_run_log.specs.declared.finding.Finding.{Finding}

@@ -3,9 +3,9 @@
 use Rattle.std.proofs.Common.{◌≡◌, ℕ, ◌∷◌, ◌++◌, List, [], length, Option, Some, None}
 use Rattle.std.specs.Prelude.{⊤, Bool, true, false, Result, Ok, Err}
 use Rattle.std.specs.Str.{bytes_eq}
-use Rattle.amo_givens.specs.declared.givens.Givens.{Givens}
-use Rattle.amo_givens.specs.declared.givens.GivensFault.{GivensFault}
-use Rattle.amo_givens.specs.Givens.{givens_of}
+use Rattle.amo_params.specs.declared.givens.Givens.{Givens}
+use Rattle.amo_params.specs.declared.givens.GivensFault.{GivensFault}
+use Rattle.amo_params.specs.Givens.{givens_of}
 use Rattle.amo_driver.specs.Course.{due}
 use Rattle.amo_driver.specs.Stage.{Stage, Going, Asking}
 use Rattle.amo_driver.specs.declared.answer.Way.{Way}

@@ -1,7 +1,7 @@
 -- Calls that neither append to logs nor read them, and take no lock on a journal.
 use Rattle.std.proofs.Common.{◌≡◌, ◌⊎◌, ⊎_elim, ℕ, List, Option, Some, None, refl, sym, ap, ◌∙◌, subst}
 use Rattle.std.specs.Prelude.{⊤}
-use Rattle.amo_clearance_safety.specs.Model.{Site}
+use Rattle.amo_safety_by_journals.specs.Model.{Site}
 use Rattle.amo_host.specs.declared.model.LogFile.{LogFile}
 use Rattle.amo_host.specs.declared.model.LogFile.TheVariants.{Journal}
 use Rattle.amo_host.specs.declared.model.RunLock.TheVariants.{Guard, Round}

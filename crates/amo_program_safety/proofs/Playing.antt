@@ -5,7 +5,7 @@ use Rattle.std.specs.Prelude.{◌==◌, nat_lt, not, slice_get, is_none, option_
 use Rattle.std.proofs.lemmas.Bool.{and_parts, eq-eqb, eqb-true}
 use Rattle.std.proofs.lemmas.Bool.Decides.{nat_tests}
 use Rattle.std.proofs.lemmas.List.{take_all}
-use Rattle.amo_clearance_safety.specs.Model.{Handing, IsOneOf}
+use Rattle.amo_safety_by_journals.specs.Model.{Handing, IsOneOf}
 use Rattle.amo_driver.specs.declared.answer.JobResult.TheVariants.{Unbegun}
 use Rattle.amo_driver.specs.declared.answer.Reply.{Reply}
 use Rattle.amo_driver.specs.declared.answer.Reply.TheVariants.{Answered}
@@ -14,7 +14,7 @@ use Rattle.amo_driver.specs.declared.model.Try.{Try}
 use Rattle.amo_driver.specs.declared.model.Try.TheVariants.{Load, Store, Find, Intend, Clear, Perform, Note, Ask}
 use Rattle.amo_driver.specs.Course.{due}
 use Rattle.amo_driver.specs.Stage.{Stage, Performing, Asking, Settling}
-use Rattle.amo_givens.specs.declared.limits.TheConstants.{MAX_WORKERS}
+use Rattle.amo_params.specs.declared.limits.TheConstants.{MAX_WORKERS}
 use Rattle.amo_host.specs.declared.model.Hold.TheVariants.{Shared, Exclusive}
 use Rattle.amo_host.specs.declared.model.LogFile.{LogFile}
 use Rattle.amo_host.specs.declared.model.LogFile.TheVariants.{Answers, Journal}
@@ -25,8 +25,8 @@ use Rattle.amo_host.specs.Phase.{Identity, Start, Unborn, Guards, Checked, Knows
 use Rattle.amo_host.specs.Protocol.{Allows, CarriesOut, MayAsk, MayWork, line_at, outcome_entry}
 use Rattle.amo_host.specs.Reading.{MayRead}
 use Rattle.amo_host.specs.Starting.{MayStart}
-use Rattle.amo_protocol.specs.Lines.{reply_heard}
-use Rattle.amo_protocol.specs.Sayings.{perform_text, was_text}
+use Rattle.amo_runner_protocol.specs.Lines.{reply_heard}
+use Rattle.amo_runner_protocol.specs.Sayings.{perform_text, was_text}
 use Rattle.amo_run_files.specs.declared.extent.Extent.{Extent}
 use Rattle.amo_run_files.specs.declared.round_file.RoundFile.{RoundFile}
 use Rattle.amo_run_files.specs.Heads.{head_of}

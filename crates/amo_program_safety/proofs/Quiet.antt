@@ -3,12 +3,12 @@ use Rattle.std.proofs.Common.{◌≡◌, ◌⊎◌, inl, inr, ⊎_elim, ◌≤�
 use Rattle.std.proofs.lemmas.Bool.{cases_eq}
 use Rattle.std.specs.Prelude.{Bool, true, false, Result, Ok, Err, replicate, slice_get}
 use native.Mathlib.Omega.{arith}
-use Rattle.amo_clearance_safety.specs.Model.{IsOneOf, Site}
+use Rattle.amo_safety_by_journals.specs.Model.{IsOneOf, Site}
 use Rattle.amo_driver.specs.declared.answer.Way.{Way}
 use Rattle.amo_driver.specs.declared.answer.Way.TheVariants.{Go, Leave}
-use Rattle.amo_givens.specs.declared.givens.Givens.{Givens}
-use Rattle.amo_givens.specs.declared.givens.GivensFault.{GivensFault}
-use Rattle.amo_givens.specs.declared.limits.TheConstants.{MAX_WORKERS}
+use Rattle.amo_params.specs.declared.givens.Givens.{Givens}
+use Rattle.amo_params.specs.declared.givens.GivensFault.{GivensFault}
+use Rattle.amo_params.specs.declared.limits.TheConstants.{MAX_WORKERS}
 use Rattle.amo_host.specs.declared.model.Hold.{Hold}
 use Rattle.amo_host.specs.declared.model.Hold.TheVariants.{Shared, Exclusive}
 use Rattle.amo_host.specs.declared.model.LogFile.{LogFile}

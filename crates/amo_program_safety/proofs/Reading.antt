@@ -2,7 +2,7 @@
 use Rattle.std.proofs.Common.{◌≡◌, ⊎_elim, ℕ, zero, suc, List, [], ◌++◌, map, take, Some, refl, sym, ap, ◌∙◌, subst, append-nil}
 use Rattle.std.specs.Prelude.{slice_get}
 use Rattle.std.proofs.lemmas.Bool.{cases_eq}
-use Rattle.amo_clearance_safety.specs.Model.{IsOneOf, Site}
+use Rattle.amo_safety_by_journals.specs.Model.{IsOneOf, Site}
 use Rattle.amo_host.specs.declared.model.LogFile.{LogFile}
 use Rattle.amo_host.specs.declared.model.LogFile.TheVariants.{Answers, Journal}
 use Rattle.amo_host.specs.Logs.{Logs, logs_after}

@@ -1,8 +1,8 @@
 -- A process that asks its runner to perform an attempt holds this attempt, and has not handed it
 -- over before.
 use Rattle.std.proofs.Common.{◌≡◌, inr, ⊎_elim, ◌<◌, ◌^◌, ℕ, Bool, List, [], ◌∷◌, length, Some, sym, ◌∙◌, subst}
-use Rattle.amo_clearance_safety.specs.Model.{Clearing as ModelClearing, Site, line_of}
-use Rattle.amo_clearance_safety.specs.Runs.{HasSeenAll}
+use Rattle.amo_safety_by_journals.specs.Model.{Clearing as ModelClearing, Site, line_of}
+use Rattle.amo_safety_by_journals.specs.Runs.{HasSeenAll}
 use Rattle.amo_process.specs.Stepped.{ProcessView}
 use Rattle.amo_process.specs.declared.access.Access.{Access}
 use Rattle.amo_process.specs.declared.access.Access.TheVariants.{Load as LoadAccess, Store as StoreAccess, Nothing}
@@ -10,7 +10,7 @@ use Rattle.amo_driver.specs.declared.model.Try.{Try}
 use Rattle.amo_driver.specs.declared.model.Try.TheVariants.{Load, Store, Find, Intend, Clear, Perform, Note, Ask}
 use Rattle.amo_driver.specs.Course.{access_tried, due}
 use Rattle.amo_driver.specs.Stage.{Stage, Going, Finding, Intending, Clearing, Performing, Noting, Leaving, Asking, Settling, Dismissed, Gone, Unanswered, Refused, Broken}
-use Rattle.amo_givens.specs.declared.limits.TheConstants.{MAX_WORKERS}
+use Rattle.amo_params.specs.declared.limits.TheConstants.{MAX_WORKERS}
 use Rattle.amo_host.specs.declared.model.LogFile.{LogFile}
 use Rattle.amo_host.specs.Calls.{Say}
 use Rattle.amo_host.specs.Logs.{Logs}
@@ -20,8 +20,8 @@ use Rattle.amo_host.specs.Joining.{MayJoin}
 use Rattle.amo_host.specs.Reading.{MayRead}
 use Rattle.amo_host.specs.Starting.{MayStart}
 use Rattle.amo_host.specs.Protocol.{line_at, CarriesOut, CarriesOutBefore, MayTryRound, MayClear, Allows}
-use Rattle.amo_protocol.specs.Sayings.{perform_text}
-use Rattle.amo_protocol.proofs.SayingTexts.{words_differ, over_differs}
+use Rattle.amo_runner_protocol.specs.Sayings.{perform_text}
+use Rattle.amo_runner_protocol.proofs.SayingTexts.{words_differ, over_differs}
 use Rattle.amo_program_safety.specs.World.{Process, World}
 use Rattle.amo_program_safety.specs.Runs.{IsFirst}
 use Rattle.amo_program_safety.proofs.Standing.{IsOpened, Knows, Owns, Gave, WorksAt, At}

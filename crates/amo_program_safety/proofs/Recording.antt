@@ -1,8 +1,8 @@
 -- An attempt with a recorded outcome has ended on its machine, if runners report outcomes only of
 -- attempts that have ended.
 use Rattle.std.proofs.Common.{◌≡◌, ◌⊎◌, inl, inr, ⊎_elim, ℕ, List, [], ◌∷◌, ◌++◌, take, Option, Some, None, refl, sym, ap, ◌∙◌, subst}
-use Rattle.amo_clearance_safety.specs.Model.{Handing, IsOneOf, Clearing as ModelClearing, Site}
-use Rattle.amo_clearance_safety.specs.Runs.{site_from}
+use Rattle.amo_safety_by_journals.specs.Model.{Handing, IsOneOf, Clearing as ModelClearing, Site}
+use Rattle.amo_safety_by_journals.specs.Runs.{site_from}
 use Rattle.amo_process.specs.declared.access.Access.{Access}
 use Rattle.amo_process.specs.declared.access.Access.TheVariants.{Load as LoadAccess, Store as StoreAccess, Nothing}
 use Rattle.amo_driver.specs.Course.{access_tried, due}

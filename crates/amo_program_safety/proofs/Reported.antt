@@ -4,7 +4,7 @@ use Rattle.std.proofs.Common.{◌≡◌, inl, Bool, true, false, ◌&&◌, List,
 use Rattle.std.proofs.lemmas.Bool.{and_parts}
 use Rattle.std.specs.Fmt.{digits}
 use Rattle.std.specs.Prelude.{codes}
-use Rattle.amo_clearance_safety.specs.Model.{Handing}
+use Rattle.amo_safety_by_journals.specs.Model.{Handing}
 use Rattle.amo_host.specs.declared.model.LogFile.TheVariants.{Journal}
 use Rattle.amo_host.specs.Calls.{Heard}
 use Rattle.amo_program_safety.specs.World.{Event, HandsOver, Calls, Stops, Doubts, Resolves, Recovers}

@@ -1,7 +1,7 @@
 -- An operator answers an attempt, while a process may have it in hand.
 use Rattle.std.proofs.Common.{◌≡◌, ◌⊎◌, inl, inr, ⊎_elim, ℕ, List, [], ◌∷◌, ◌++◌, Option, Some, None, refl, sym, ap, ◌∙◌, subst, append_assoc}
-use Rattle.amo_clearance_safety.specs.Model.{Attempt as Name, Handing, IsOneOf, Stage as ModelStage, Away, Free, Clearing as ModelClearing, Site, Opens, line_of}
-use Rattle.amo_clearance_safety.specs.Runs.{IsOver as ModelIsOver}
+use Rattle.amo_safety_by_journals.specs.Model.{Attempt as Name, Handing, IsOneOf, Stage as ModelStage, Away, Free, Clearing as ModelClearing, Site, Opens, line_of}
+use Rattle.amo_safety_by_journals.specs.Runs.{IsOver as ModelIsOver}
 use Rattle.amo_driver.specs.Stage.{Stage, Going, Finding, Intending, Clearing, Performing, Noting, Leaving, Asking, Settling, Dismissed, Gone, Unanswered, Refused, Broken}
 use Rattle.amo_host.specs.declared.model.LogFile.TheVariants.{Answers}
 use Rattle.amo_host.specs.Phase.{Start, Unborn, Guards, Checked, Knows as KnowsRound, HasRecovered, Settled as HasSettled, Phase, Starts as Starting, Asks, Idle, Begins, Joins, Reads, Works, Clears, Unclear, Over, Stays, Ended}

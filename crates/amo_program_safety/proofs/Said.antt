@@ -8,7 +8,7 @@ use Rattle.std.specs.Str.Parse.{digits_value}
 use Rattle.std.proofs.lemmas.List.{append_cancel_left, append_cancel_right}
 use Rattle.amo_run_log.specs.Numbers.{first_word, other_words}
 use Rattle.amo_run_log.proofs.Words.{Lacks, AreWords, words}
-use Rattle.amo_protocol.specs.Sayings.{perform_text}
+use Rattle.amo_runner_protocol.specs.Sayings.{perform_text}
 
 -- ---- numbers of any length
 

@@ -1,7 +1,7 @@
 -- A settled attempt stays settled after every event of the model.
 use Rattle.std.proofs.Common.{◌≡◌, ℕ, suc, List, [], ◌∷◌, ◌++◌, length, Some, sym, ap, ◌∙◌}
-use Rattle.amo_clearance_safety.specs.Model.{Stage as ModelStage, Away, Free, Wanting, Clearing as ModelClearing, Site, site_after, Event as ModelEvent, Dies, Begins, Lands, Wants, Intends, Looks, HandsOver, Performs, Ends, Opens, with_at, looked, line_of}
-use Rattle.amo_clearance_safety.specs.Runs.{site_from}
+use Rattle.amo_safety_by_journals.specs.Model.{Stage as ModelStage, Away, Free, Wanting, Clearing as ModelClearing, Site, site_after, Event as ModelEvent, Dies, Begins, Lands, Wants, Intends, Looks, HandsOver, Performs, Ends, Opens, with_at, looked, line_of}
+use Rattle.amo_safety_by_journals.specs.Runs.{site_from}
 use Rattle.amo_program_safety.proofs.Texts.{line_of_both, line_behind}
 use Rattle.amo_program_safety.proofs.Standing.{Settled}
 use Rattle.amo_program_safety.proofs.Points.{at_number}

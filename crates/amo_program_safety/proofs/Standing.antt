@@ -2,13 +2,13 @@
 -- alone.
 use Rattle.std.proofs.Common.{◌≡◌, ◌⊎◌, ◌≤◌, ◌<◌, ◌^◌, ℕ, suc, List, [], ◌∷◌, ◌++◌, length, map, Option, Some, None}
 use Rattle.std.specs.Prelude.{⊤, true, slice_get}
-use Rattle.amo_clearance_safety.specs.Model.{Handing, IsOneOf, Away, Free, Clearing as ModelClearing, Site, line_of}
-use Rattle.amo_clearance_safety.specs.Runs.{HasSeenAll}
+use Rattle.amo_safety_by_journals.specs.Model.{Handing, IsOneOf, Away, Free, Clearing as ModelClearing, Site, line_of}
+use Rattle.amo_safety_by_journals.specs.Runs.{HasSeenAll}
 use Rattle.amo_driver.specs.Stage.{Stage, Going, Finding, Intending, Clearing, Performing, Noting, Leaving, Asking, Settling, Dismissed, Gone, Unanswered, Refused, Broken}
 use Rattle.amo_driver.specs.declared.answer.JobResult.{JobResult}
 use Rattle.amo_driver.specs.declared.answer.JobResult.TheVariants.{Unbegun}
 use Rattle.amo_driver.specs.declared.past.Intent.{Intent as Pending}
-use Rattle.amo_givens.specs.declared.limits.TheConstants.{MAX_WORKERS}
+use Rattle.amo_params.specs.declared.limits.TheConstants.{MAX_WORKERS}
 use Rattle.amo_host.specs.declared.model.LogFile.{LogFile}
 use Rattle.amo_host.specs.declared.model.LogFile.TheVariants.{Answers, Journal}
 use Rattle.amo_host.specs.Calls.{Request, Put}

@@ -1,7 +1,7 @@
 -- A process starts, and takes the number of its worker.
 use Rattle.std.proofs.Common.{◌≡◌, ◌⊎◌, inl, inr, ⊎_elim, ℕ, Bool, true, false, List, [], ◌∷◌, ◌++◌, length, map, take, Option, Some, None, refl, sym, ap, ◌∙◌, subst}
-use Rattle.amo_clearance_safety.specs.Model.{IsOneOf, Away, Free, Site, site_after, Begins, with_at, line_of}
-use Rattle.amo_clearance_safety.specs.Runs.{site_from}
+use Rattle.amo_safety_by_journals.specs.Model.{IsOneOf, Away, Free, Site, site_after, Begins, with_at, line_of}
+use Rattle.amo_safety_by_journals.specs.Runs.{site_from}
 use Rattle.amo_driver.specs.declared.past.Intent.{Intent as Pending}
 use Rattle.amo_host.specs.declared.model.Hold.TheVariants.{Exclusive}
 use Rattle.amo_host.specs.declared.model.LogFile.TheVariants.{Journal}

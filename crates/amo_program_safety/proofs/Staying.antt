@@ -1,7 +1,7 @@
 -- Facts about a command stay true if settled attempts stay settled and the command keeps its locks.
 use Rattle.std.proofs.Common.{◌≡◌, ◌-◌, ℕ, suc, List, Some}
 use Rattle.std.specs.Prelude.{slice_get}
-use Rattle.amo_clearance_safety.specs.Model.{Site, line_of}
+use Rattle.amo_safety_by_journals.specs.Model.{Site, line_of}
 use Rattle.amo_run_log.specs.declared.finding.Finding.{Finding}
 use Rattle.amo_status.specs.declared.state.AttemptId.{AttemptId}
 use Rattle.amo_operator.specs.Phase.{Known, Texts, Phase, Enters, Guards, Checked, HasHeader, Reads, Checks, Settles, Looks, Behind, Pends, Idles, Rests, Probes, Finds, Dates, Records, Reports, Prints, Waits, Puts, Ended}

@@ -1,7 +1,7 @@
 -- Facts about a process after a call.
 use Rattle.std.proofs.Common.{◌≡◌, ℕ, List, [], Option, Some, None, sym, ap, ◌∙◌, subst}
 use Rattle.std.specs.Prelude.{⊤}
-use Rattle.amo_clearance_safety.specs.Model.{Free, Site}
+use Rattle.amo_safety_by_journals.specs.Model.{Free, Site}
 use Rattle.amo_host.specs.declared.model.LogFile.{LogFile}
 use Rattle.amo_host.specs.declared.model.LogFile.TheVariants.{Journal}
 use Rattle.amo_host.specs.Calls.{Call, HasPut, HasOwed, HasPaid, request_of}

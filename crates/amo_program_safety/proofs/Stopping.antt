@@ -1,7 +1,7 @@
 -- A command that has the locks of a worker keeps that worker and its runner stopped.
 use Rattle.std.proofs.Common.{◌≡◌, ◌⊎◌, inl, ⊎_elim, ℕ, List, Option, Some, refl, sym, ap, ◌∙◌}
 use Rattle.std.specs.Prelude.{⊤, true}
-use Rattle.amo_clearance_safety.specs.Model.{Handing, IsOneOf}
+use Rattle.amo_safety_by_journals.specs.Model.{Handing, IsOneOf}
 use Rattle.amo_status.specs.declared.state.AttemptId.{AttemptId}
 use Rattle.amo_operator.specs.declared.model.OperatorLock.TheVariants.{Journal}
 use Rattle.amo_operator.specs.Calls.{Call, Tried, HasUnlocked, HasUnlockedAll}

@@ -1,7 +1,7 @@
 -- A command keeps what it has stopped, and stops more, by each of its calls.
 use Rattle.std.proofs.Common.{◌≡◌, inl, inr, ⊎_elim, ◌<◌, ◌-◌, ℕ, List, [], ◌∷◌, length, map, Option, Some, None, refl, sym, ap, ◌∙◌, arith, subst}
 use Rattle.std.specs.Prelude.{⊤, Bool, true, false, slice_index_or, if◌then◌else◌}
-use Rattle.amo_clearance_safety.specs.Model.{IsOneOf, Site}
+use Rattle.amo_safety_by_journals.specs.Model.{IsOneOf, Site}
 use Rattle.amo_run_files.specs.declared.round_file.RoundFile.{RoundFile}
 use Rattle.amo_run_log.specs.declared.finding.Finding.{Finding}
 use Rattle.amo_run_log.specs.declared.journal.Attempt.{Attempt}

@@ -1,7 +1,7 @@
 -- Commands keep what they have stopped, at each step.
 use Rattle.std.proofs.Common.{◌≡◌, inl, inr, ⊎_elim, ℕ, List, [], ◌∷◌, Option, Some, None, refl, sym, ap, ◌∙◌, subst}
 use Rattle.std.specs.Prelude.{◌==◌, ◌&&◌, Bool, true, false, if◌then◌else◌}
-use Rattle.amo_clearance_safety.specs.Model.{Handing, IsOneOf, Clearing as ModelClearing, Site, with_at}
+use Rattle.amo_safety_by_journals.specs.Model.{Handing, IsOneOf, Clearing as ModelClearing, Site, with_at}
 use Rattle.amo_operator.specs.Calls.{Request, Call}
 use Rattle.amo_operator.specs.Phase.{Enters as Entering}
 use Rattle.amo_operator.specs.Protocol.{phase_after}

@@ -4,7 +4,7 @@ use Rattle.std.specs.Prelude.{slice_get, slice_set, ◌==◌, not, is_none, opti
 use Rattle.std.proofs.lemmas.Bool.{and_parts, eq-eqb}
 use Rattle.std.proofs.lemmas.List.{map_push}
 use Rattle.std.proofs.lemmas.List.Folds.{list_any-append}
-use Rattle.amo_clearance_safety.specs.Model.{IsOneOf, line_of}
+use Rattle.amo_safety_by_journals.specs.Model.{IsOneOf, line_of}
 use Rattle.amo_run_log.specs.declared.append.Append.{Append}
 use Rattle.amo_run_log.specs.declared.clearance.AttemptId.{AttemptId}
 use Rattle.amo_run_log.specs.declared.entry.Entry.{Entry}

@@ -2,8 +2,8 @@
 use Rattle.std.proofs.Common.{◌≡◌, ℕ, [], Option, Some, None, refl, sym, ap, ◌∙◌, subst}
 use Rattle.std.specs.Prelude.{⊤, Bool, true, false, ◌==◌, if◌then◌else◌}
 use Rattle.std.proofs.lemmas.Bool.{ne_eqb}
-use Rattle.amo_clearance_safety.specs.Model.{Site, with_at, line_of}
-use Rattle.amo_clearance_safety.specs.Runs.{site_from}
+use Rattle.amo_safety_by_journals.specs.Model.{Site, with_at, line_of}
+use Rattle.amo_safety_by_journals.specs.Runs.{site_from}
 use Rattle.amo_host.specs.declared.model.LogFile.{LogFile}
 use Rattle.amo_operator.specs.declared.model.OperatorLock.TheVariants.{Answers as AnswersLock, Journal as JournalLock, Runner, Command as CommandLock}
 use Rattle.amo_operator.specs.Calls.{Call, Tried, HasUnlocked, HasUnlockedAll, Recovered, HasPutDoubt, HasPutAnswer}

@@ -2,13 +2,13 @@
 use Rattle.std.proofs.Common.{◌≡◌, inl, ℕ, true, false, List, [], ◌∷◌, ◌++◌, map, Option, Some, None, refl}
 use Rattle.std.specs.Fmt.{digits}
 use Rattle.std.specs.Prelude.{codes, is_none}
-use Rattle.amo_clearance_safety.specs.Model.{Handing, IsOneOf}
+use Rattle.amo_safety_by_journals.specs.Model.{Handing, IsOneOf}
 use Rattle.amo_host.specs.declared.model.Hold.TheVariants.{Exclusive}
 use Rattle.amo_host.specs.declared.model.LogFile.{LogFile}
 use Rattle.amo_host.specs.declared.model.LogFile.TheVariants.{Journal}
 use Rattle.amo_host.specs.declared.model.RunLock.TheVariants.{Guard}
 use Rattle.amo_host.specs.Calls.{Call, Tried, Recovered, LogIs, HasRead, HasPut, HasPaid, Heard, request_of}
-use Rattle.amo_protocol.specs.Sayings.{perform_text}
+use Rattle.amo_runner_protocol.specs.Sayings.{perform_text}
 use Rattle.amo_run_log.specs.declared.entry.Entry.TheVariants.{Intent}
 use Rattle.amo_run_log.specs.declared.finding.Finding.{Finding}
 use Rattle.amo_program_safety.specs.World.{Process, World, new_process, Event, HandsOver, Calls, Performs, Resolves, Recovers, world_after}

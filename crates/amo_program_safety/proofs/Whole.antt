@@ -1,8 +1,8 @@
 -- A run of processes is a run of the model by journals alone.
 use Rattle.std.proofs.Common.{ℕ, List, [], ◌∷◌, ◌++◌, map, refl, sym, subst}
-use Rattle.amo_clearance_safety.specs.Model.{AreDistinct, Handing, Site, first_site, Event as ModelEvent}
-use Rattle.amo_clearance_safety.specs.Runs.{Clearance, IsRun as IsModelRun, site_from, site_of}
-use Rattle.amo_givens.specs.declared.limits.TheConstants.{MAX_WORKERS}
+use Rattle.amo_safety_by_journals.specs.Model.{AreDistinct, Handing, Site, first_site, Event as ModelEvent}
+use Rattle.amo_safety_by_journals.specs.Runs.{Clearance, IsRun as IsModelRun, site_from, site_of}
+use Rattle.amo_params.specs.declared.limits.TheConstants.{MAX_WORKERS}
 use Rattle.amo_program_safety.specs.World.{World, Event, Starts, Writes, HandsOver, Calls, Dies, Stops, Performs, Ends, Doubts, Resolves, Recovers, world_after}
 use Rattle.amo_program_safety.specs.Runs.{MayFollow, IsRun, IsRunFrom, first_world, world_from, world_of}
 use Rattle.amo_program_safety.proofs.Standing.{Goes}

@@ -3,8 +3,8 @@ use Rattle.std.proofs.Common.{◌≡◌, ◌⊎◌, inl, inr, ⊎_elim, ◌≤�
 use Rattle.std.proofs.lemmas.Bool.{cases_eq, eq-eqb, ne_eqb}
 use Rattle.std.specs.Prelude.{Bool, true, false, ◌==◌, if◌then◌else◌}
 use native.Mathlib.Omega.{arith}
-use Rattle.amo_clearance_safety.specs.Model.{Away, Free, Clearing as ModelClearing, Site, site_after, Event as ModelEvent, Dies, Begins, Intends, line_of}
-use Rattle.amo_clearance_safety.specs.Runs.{Clearance, IsRunFrom, site_from}
+use Rattle.amo_safety_by_journals.specs.Model.{Away, Free, Clearing as ModelClearing, Site, site_after, Event as ModelEvent, Dies, Begins, Intends, line_of}
+use Rattle.amo_safety_by_journals.specs.Runs.{Clearance, IsRunFrom, site_from}
 use Rattle.amo_driver.specs.Course.{due, stage_replied, access_tried}
 use Rattle.amo_driver.specs.Stage.{Stage, Going, Finding, Intending, Performing, Noting, Leaving, Unanswered}
 use Rattle.amo_driver.specs.declared.answer.JobResult.{JobResult}
@@ -14,7 +14,7 @@ use Rattle.amo_driver.specs.declared.answer.Reply.TheVariants.{Answered as Repli
 use Rattle.amo_driver.specs.declared.answer.Way.{Way}
 use Rattle.amo_driver.specs.declared.model.Try.{Try}
 use Rattle.amo_driver.specs.declared.model.Try.TheVariants.{Store, Find}
-use Rattle.amo_givens.specs.declared.limits.TheConstants.{MAX_WORKERS}
+use Rattle.amo_params.specs.declared.limits.TheConstants.{MAX_WORKERS}
 use Rattle.amo_process.specs.Stepped.{ProcessView}
 use Rattle.amo_process.specs.declared.access.Access.{Access}
 use Rattle.amo_process.specs.declared.access.Access.TheVariants.{Load as LoadAccess, Store as StoreAccess, Nothing}
@@ -23,7 +23,7 @@ use Rattle.amo_host.specs.Calls.{Request, Put, Owe, Say, Call, HasPut, HasOwed, 
 use Rattle.amo_host.specs.Logs.{Logs}
 use Rattle.amo_host.specs.Phase.{Identity, Works}
 use Rattle.amo_host.specs.Protocol.{CarriesOut, outcome_at, outcome_entry, stage_by, phase_after, line_at}
-use Rattle.amo_protocol.specs.Lines.{reply_heard}
+use Rattle.amo_runner_protocol.specs.Lines.{reply_heard}
 use Rattle.amo_run_log.specs.declared.entry.Entry.{Entry}
 use Rattle.amo_run_log.specs.declared.entry.Entry.TheVariants.{Intent, Answer as Answered}
 use Rattle.amo_run_log.specs.declared.entry.Outcome.{Outcome}

@@ -1,7 +1,7 @@
 -- The steps of a process in a round, except the steps by which it asks whether a line is clear.
 use Rattle.std.proofs.Common.{◌≡◌, ◌⊎◌, inl, inr, ⊎_elim, ℕ, zero, suc, List, [], ◌∷◌, ◌++◌, length, Option, Some, None, refl, sym, ap, ◌∙◌, subst}
 use Rattle.std.specs.Prelude.{Bool, true, false, if◌then◌else◌}
-use Rattle.amo_clearance_safety.specs.Model.{IsOneOf, Free, Site, line_of}
+use Rattle.amo_safety_by_journals.specs.Model.{IsOneOf, Free, Site, line_of}
 use Rattle.amo_driver.specs.Course.{due, stage_after, stage_told, stage_heard, stage_by_jobs}
 use Rattle.amo_driver.specs.Stage.{Stage, Going, Finding, Intending, Clearing, Performing, Noting, Leaving, Gone, Unanswered, Refused, Broken}
 use Rattle.amo_driver.specs.declared.answer.Way.{Way}

@@ -2,7 +2,7 @@
 use Rattle.std.proofs.Common.{◌≡◌, ◌⊎◌, inl, inr, ⊎_elim, ℕ, List, [], ◌∷◌, ◌++◌, Option, Some, None, refl, sym, ap, ◌∙◌, subst, append_assoc}
 use Rattle.std.specs.Prelude.{Bool}
 use Rattle.std.proofs.lemmas.Bool.{cases_eq}
-use Rattle.amo_clearance_safety.specs.Model.{Attempt as Name, Handing, IsOneOf, Away, Clearing as ModelClearing, Site, site_after, Dies, Opens, line_of}
+use Rattle.amo_safety_by_journals.specs.Model.{Attempt as Name, Handing, IsOneOf, Away, Clearing as ModelClearing, Site, site_after, Dies, Opens, line_of}
 use Rattle.amo_driver.specs.Course.{due}
 use Rattle.amo_driver.specs.Stage.{Stage, Going, Finding, Intending, Clearing, Performing, Noting, Leaving, Asking, Settling, Dismissed, Gone, Unanswered, Refused, Broken}
 use Rattle.amo_driver.specs.declared.answer.JobResult.{JobResult}

@@ -1,6 +1,6 @@
 -- An attempt is final on a machine: nothing of it is left there, and nothing of it is to come.
 use Rattle.std.specs.Prelude.{◌≡◌, ℕ, Some}
-use Rattle.amo_clearance_safety.specs.Model.{Handing, IsOneOf}
+use Rattle.amo_safety_by_journals.specs.Model.{Handing, IsOneOf}
 use Rattle.amo_program_safety.specs.World.{Process}
 use Rattle.amo_program_safety.specs.Runs.{IsNamed, held_in}
 use Rattle.amo_program_safety.specs.Machine.{Machine}

@@ -1,7 +1,7 @@
 -- The texts of the lines that are performed. The rules of runs have line numbers alone: a read of
 -- the lines may give any texts. The definitions here state that all reads are of one list.
 use Rattle.std.specs.Prelude.{◌≡◌, ⊤, ℕ, ◌<◌, ◌^◌, List, [], ◌∷◌, length, Option, Some}
-use Rattle.amo_clearance_safety.specs.Model.{IsOneOf}
+use Rattle.amo_safety_by_journals.specs.Model.{IsOneOf}
 use Rattle.amo_host.specs.Calls.{JobsAre}
 use Rattle.amo_run_files.specs.Jobs.{line_of}
 use Rattle.amo_program_safety.specs.World.{Event, HandsOver, Calls}

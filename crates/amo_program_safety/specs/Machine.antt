@@ -1,7 +1,7 @@
 -- A machine: a world, with the processes of operators' commands and the locks that these commands
 -- try. It also has the attempts that are left with runners or commands.
 use Rattle.std.specs.Prelude.{ℕ, true, false, List, [], ◌∷◌, ◌++◌, ◌==◌, ◌&&◌, Option, Some, None, if◌then◌else◌}
-use Rattle.amo_clearance_safety.specs.Model.{Handing, with_at}
+use Rattle.amo_safety_by_journals.specs.Model.{Handing, with_at}
 use Rattle.amo_host.specs.declared.model.LogFile.{LogFile}
 use Rattle.amo_host.specs.declared.model.LogFile.TheVariants.{Answers, Journal as JournalFile}
 use Rattle.amo_operator.specs.declared.model.Command.{Command}

@@ -1,20 +1,20 @@
 -- The runs of a world. They are limited by the protocol of the processes, and by rules for the
 -- kernel, the disk, the runners and the operators.
 use Rattle.std.specs.Prelude.{◌≡◌, ⊤, ℕ, ◌≤◌, ◌<◌, ◌^◌, true, List, [], ◌∷◌, ◌++◌, take, Option, Some, None}
-use Rattle.amo_clearance_safety.specs.Model.{Handing, IsOneOf, line_of}
+use Rattle.amo_safety_by_journals.specs.Model.{Handing, IsOneOf, line_of}
 use Rattle.amo_driver.specs.Stage.{Stage, Clearing, Performing}
 use Rattle.amo_driver.specs.declared.answer.JobResult.TheVariants.{Unbegun}
 use Rattle.amo_driver.specs.declared.answer.Reply.TheVariants.{Answered}
 use Rattle.amo_driver.specs.declared.answer.Way.{Way}
-use Rattle.amo_givens.specs.declared.limits.TheConstants.{MAX_WORKERS}
+use Rattle.amo_params.specs.declared.limits.TheConstants.{MAX_WORKERS}
 use Rattle.amo_host.specs.declared.model.LogFile.{LogFile}
 use Rattle.amo_host.specs.declared.model.LogFile.TheVariants.{Answers, Journal}
 use Rattle.amo_host.specs.declared.model.RunLock.TheVariants.{Guard}
 use Rattle.amo_host.specs.Calls.{Request, Say, Put, Pay, Call, Tried, Recovered, LogIs, HasRead, HasPut, HasPaid, Heard, request_of}
 use Rattle.amo_host.specs.Phase.{Phase, Works, Clears}
 use Rattle.amo_host.specs.Protocol.{Allows}
-use Rattle.amo_protocol.specs.Lines.{reply_heard}
-use Rattle.amo_protocol.specs.Sayings.{perform_text}
+use Rattle.amo_runner_protocol.specs.Lines.{reply_heard}
+use Rattle.amo_runner_protocol.specs.Sayings.{perform_text}
 use Rattle.amo_run_log.specs.declared.entry.Entry.{Entry}
 use Rattle.amo_run_log.specs.declared.finding.Finding.{Finding}
 use Rattle.amo_run_log.specs.declared.finding.Resolution.TheVariants.{NotDone}

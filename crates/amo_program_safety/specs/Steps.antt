@@ -1,12 +1,12 @@
 -- The runs of a machine with workers and operators' commands.
 use Rattle.std.specs.Prelude.{◌≡◌, ⊤, ℕ, ◌<◌, ◌^◌, true, List, [], ◌∷◌, Option, Some, None}
-use Rattle.amo_clearance_safety.specs.Model.{Handing, IsOneOf}
+use Rattle.amo_safety_by_journals.specs.Model.{Handing, IsOneOf}
 use Rattle.amo_driver.specs.declared.answer.JobResult.{JobResult}
 use Rattle.amo_driver.specs.declared.answer.Reply.TheVariants.{Answered}
 use Rattle.amo_driver.specs.declared.answer.Way.{Way}
 use Rattle.amo_host.specs.declared.model.RunLock.TheVariants.{Guard}
 use Rattle.amo_host.specs.Calls.{Tried as WorkerTried, Heard}
-use Rattle.amo_protocol.specs.Lines.{reply_heard}
+use Rattle.amo_runner_protocol.specs.Lines.{reply_heard}
 use Rattle.amo_run_log.specs.declared.finding.Finding.{Finding}
 use Rattle.amo_run_log.specs.declared.finding.Resolution.TheVariants.{NotDone}
 use Rattle.amo_run_log.specs.Findings.{FitsFinding}

@@ -1,6 +1,6 @@
 -- Which runs there are if one of our premises fails.
 use Rattle.std.specs.Prelude.{◌≡◌, ⊤, ℕ, true, List, [], ◌∷◌, Some, None}
-use Rattle.amo_clearance_safety.specs.Model.{Handing, IsOneOf, line_of}
+use Rattle.amo_safety_by_journals.specs.Model.{Handing, IsOneOf, line_of}
 use Rattle.amo_driver.specs.declared.answer.JobResult.TheVariants.{Unbegun}
 use Rattle.amo_driver.specs.declared.answer.Reply.TheVariants.{Answered}
 use Rattle.amo_driver.specs.declared.answer.Way.{Way}
@@ -8,8 +8,8 @@ use Rattle.amo_host.specs.declared.model.LogFile.{LogFile}
 use Rattle.amo_host.specs.declared.model.LogFile.TheVariants.{Journal}
 use Rattle.amo_host.specs.declared.model.RunLock.TheVariants.{Guard}
 use Rattle.amo_host.specs.Calls.{Call, Tried, Recovered, LogIs, HasRead, HasPut, HasPaid, Heard, Say, request_of}
-use Rattle.amo_protocol.specs.Lines.{reply_heard}
-use Rattle.amo_protocol.specs.Sayings.{perform_text}
+use Rattle.amo_runner_protocol.specs.Lines.{reply_heard}
+use Rattle.amo_runner_protocol.specs.Sayings.{perform_text}
 use Rattle.amo_run_log.specs.declared.finding.Finding.{Finding}
 use Rattle.amo_run_log.specs.declared.finding.Resolution.TheVariants.{NotDone}
 use Rattle.amo_run_log.specs.Findings.{FitsFinding}

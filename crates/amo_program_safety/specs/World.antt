@@ -2,7 +2,7 @@
 -- processes, the logs on the disk, the locks on journals, and the attempts that were handed over to
 -- runners.
 use Rattle.std.specs.Prelude.{ℕ, ◌+◌, Bool, true, false, List, [], ◌∷◌, ◌++◌, take, drop, Option, Some, None, option_map, ◌==◌, if◌then◌else◌}
-use Rattle.amo_clearance_safety.specs.Model.{Handing, with_at}
+use Rattle.amo_safety_by_journals.specs.Model.{Handing, with_at}
 use Rattle.amo_host.specs.declared.model.LogFile.{LogFile}
 use Rattle.amo_host.specs.declared.model.LogFile.TheVariants.{Answers, Journal}
 use Rattle.amo_host.specs.declared.model.RunLock.TheVariants.{Guard}

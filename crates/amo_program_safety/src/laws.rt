@@ -1,8 +1,8 @@
 //! The theorems of this crate, runs that they speak of, and runs in which a premise fails. The
 //! contract of each function states a theorem, and no function does anything when it runs.
-ghost use Rattle.amo_clearance_safety.specs.Model.{AreDistinct, Event as ModelEvent, Handing, IsOneOf};
-ghost use Rattle.amo_clearance_safety.specs.Runs.{Clearance, IsRun as IsModelRun, site_of};
-ghost use Rattle.amo_givens.specs.declared.limits.TheConstants.{MAX_WORKERS};
+ghost use Rattle.amo_safety_by_journals.specs.Model.{AreDistinct, Event as ModelEvent, Handing, IsOneOf};
+ghost use Rattle.amo_safety_by_journals.specs.Runs.{Clearance, IsRun as IsModelRun, site_of};
+ghost use Rattle.amo_params.specs.declared.limits.TheConstants.{MAX_WORKERS};
 ghost use Rattle.amo_host.specs.Calls.{Put};
 ghost use Rattle.amo_host.specs.declared.model.LogFile.TheVariants.{Journal};
 ghost use Rattle.amo_operator.specs.Calls.{PutDoubt};
@@ -23,7 +23,7 @@ ghost use Rattle.amo_run_log.specs.declared.entry.Outcome.{Outcome};
 ghost use Rattle.amo_status.specs.declared.state.AttemptId.{AttemptId};
 ghost use Rattle.std.specs.Prelude.{◌≡◌, ◌++◌, ◌∷◌, ℕ, List, Some, map, [], codes};
 
-use amo_clearance_safety::laws::lines_are_performed_once_by_journals_alone;
+use amo_safety_by_journals::laws::lines_are_performed_once_by_journals_alone;
 
 /// States that each line is performed at most once, in every run of processes of `work` and
 /// operators' commands that keep their protocols. The processes and commands may be killed in any

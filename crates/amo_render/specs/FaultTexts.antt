@@ -1,8 +1,8 @@
 -- The line of a plan's fault: its number, its name and its fields.
 use Rattle.std.specs.Prelude.{ℕ, List, ◌++◌, codes}
 use Rattle.std.specs.Fmt.{decimal}
-use Rattle.amo_givens.specs.declared.givens.GivensFault.{GivensFault}
-use Rattle.amo_givens.specs.declared.givens.GivensFault.TheVariants.{TooManyJobs, NoWorkers, TooManyWorkers, BetaLow, BetaHigh}
+use Rattle.amo_params.specs.declared.givens.GivensFault.{GivensFault}
+use Rattle.amo_params.specs.declared.givens.GivensFault.TheVariants.{TooManyJobs, NoWorkers, TooManyWorkers, BetaLow, BetaHigh}
 use Rattle.amo_plan.specs.declared.fault.PlanFault.{PlanFault}
 use Rattle.amo_plan.specs.declared.fault.PlanFault.TheVariants.{NotToml, UnknownKey, MissingKey, WrongKind, BadGivens, TwoNames, BadName, SumTooLarge, BadScheduleWord, NoSuchWorker, TooLong, NoMemory}
 

@@ -2,8 +2,8 @@
 use Rattle.std.specs.Prelude.{ℕ, List, [], ◌++◌, ◌==◌, if◌then◌else◌, codes}
 use Rattle.std.specs.Fmt.{decimal}
 use Rattle.std.specs.List.{flat_map}
-use Rattle.amo_givens.specs.Givens.{bound}
-use Rattle.amo_givens.specs.declared.givens.Givens.{Givens}
+use Rattle.amo_params.specs.Givens.{bound}
+use Rattle.amo_params.specs.declared.givens.Givens.{Givens}
 
 -- in version 1 nothing, else ` block G blocks n`, since there the givens' jobs are blocks
 unfoldable pub block_part : ℕ → ℕ → Givens → List ℕ

@@ -2,7 +2,7 @@
 ghost use Rattle.std.specs.Prelude.{◌≡◌, IfOk, string_bytes};
 ghost use Rattle.amo_render.specs.FaultTexts.{givens_fault_name, fault_line};
 
-use amo_givens::GivensFault;
+use amo_params::GivensFault;
 use amo_plan::PlanFault;
 use std::alloc::{AllocError, Global};
 

@@ -2,7 +2,7 @@
 ghost use Rattle.std.specs.Prelude.{◌≡◌, ◌++◌, OnOk, string_bytes, length};
 ghost use Rattle.amo_render.specs.Numbers.{block_part, numbers_part, first_words, first_line};
 
-use amo_givens::Givens;
+use amo_params::Givens;
 use amo_plan::Heads;
 use std::alloc::AllocError;
 

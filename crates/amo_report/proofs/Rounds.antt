@@ -1,10 +1,10 @@
 -- The moves of a plan, one part after the other.
 use Rattle.std.proofs.Common.{◌≡◌, ℕ, ◌+◌, true, List, [], ◌∷◌, ◌++◌, refl, sym, ap, ◌∙◌, add-one}
 use Rattle.amo_sets.specs.Lists.{table}
-use Rattle.amo_givens.specs.Moves.{are_in_range}
+use Rattle.amo_params.specs.Moves.{are_in_range}
 use Rattle.amo_kk.specs.World.{world_after_moves, round, rounds}
-use Rattle.amo_givens.specs.declared.givens.Givens.{Givens}
-use Rattle.amo_givens.specs.declared.moves.Move.{Move}
+use Rattle.amo_params.specs.declared.givens.Givens.{Givens}
+use Rattle.amo_params.specs.declared.moves.Move.{Move}
 use Rattle.amo_kk.specs.declared.model.World.{World}
 use Rattle.amo_kk.proofs.Moves.{world_after_moves-append}
 use Rattle.amo_world.specs.Views.{WorldView}

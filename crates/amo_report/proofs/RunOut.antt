@@ -5,14 +5,14 @@ use Rattle.std.proofs.lemmas.Bool.{true≢false, cases_eq, cases_lt, or_cases}
 use Rattle.amo_sets.specs.Sets.{has}
 use Rattle.amo_sets.proofs.Numbers.{numbered-put_other, length_distinct, count_le_all}
 use Rattle.amo_sets.proofs.Tables.{numbered_past}
-use Rattle.amo_givens.specs.Givens.{IsWorker, lone_bound}
+use Rattle.amo_params.specs.Givens.{IsWorker, lone_bound}
 use Rattle.amo_kk.specs.Record.{is_over}
 use Rattle.amo_kk.specs.Step.{want, record_after}
 use Rattle.amo_kk.specs.World.{nobody, process, loaded_value, world_after_turn}
 use Rattle.amo_kk.specs.Alone.{is_claiming, claims_or_ends, world_after_turns, IsFirstToClaimOrEnd}
 use Rattle.amo_kk.specs.Lawful.{IsLawful}
-use Rattle.amo_givens.specs.declared.givens.Givens.{Givens}
-use Rattle.amo_givens.specs.declared.moves.Move.TheVariants.{Turn}
+use Rattle.amo_params.specs.declared.givens.Givens.{Givens}
+use Rattle.amo_params.specs.declared.moves.Move.TheVariants.{Turn}
 use Rattle.amo_kk.specs.declared.model.Process.{Process}
 use Rattle.amo_kk.specs.declared.model.Record.{Record}
 use Rattle.amo_kk.specs.declared.model.World.{World}

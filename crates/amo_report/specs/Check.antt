@@ -1,7 +1,7 @@
 -- The text of a check.
 use Rattle.std.specs.Prelude.{ℕ, List, ◌++◌, length, codes}
 use Rattle.std.specs.Fmt.{decimal}
-use Rattle.amo_givens.specs.declared.givens.Givens.{Givens}
+use Rattle.amo_params.specs.declared.givens.Givens.{Givens}
 use Rattle.amo_plan.specs.Plan.{PlanSeen}
 use Rattle.amo_render.specs.Numbers.{numbers_part}
 

@@ -5,10 +5,10 @@ use Rattle.std.specs.Fmt.{decimal}
 use Rattle.std.specs.List.{flat_map}
 use Rattle.amo_kk.specs.Run.{done_jobs}
 use Rattle.amo_kk.specs.World.{process, opening_world, world_after_turn, world_after_halt, world_after_moves}
-use Rattle.amo_givens.specs.Givens.{lone_bound}
+use Rattle.amo_params.specs.Givens.{lone_bound}
 use Rattle.amo_kk.specs.Alone.{claims_or_ends, world_after_turns}
 use Rattle.amo_kk.specs.declared.event.Event.{Event}
-use Rattle.amo_givens.specs.declared.givens.Givens.{Givens}
+use Rattle.amo_params.specs.declared.givens.Givens.{Givens}
 use Rattle.amo_kk.specs.declared.model.World.{World}
 use Rattle.amo_world.specs.Answer.{verdict}
 use Rattle.amo_world.specs.declared.answer.Verdict.{Verdict}

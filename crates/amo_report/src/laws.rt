@@ -1,12 +1,12 @@
 //! The theorems over the definitions of the explorer and of stops. Nothing here runs: each
 //! function's contract is a theorem.
 ghost use Rattle.std.specs.Prelude.{◌≡◌, ◌≤◌, ◌+◌, ◌*◌, ℕ, suc, true, false, List, length};
-ghost use Rattle.amo_givens.specs.Givens.{lone_bound};
+ghost use Rattle.amo_params.specs.Givens.{lone_bound};
 ghost use Rattle.amo_kk.specs.Alone.{IsFirstToClaimOrEnd};
 ghost use Rattle.amo_kk.specs.Lawful.{IsLawful};
 ghost use Rattle.amo_kk.specs.World.{process, world_of};
-ghost use Rattle.amo_givens.specs.declared.moves.Move.{Move};
-ghost use Rattle.amo_givens.specs.declared.givens.Givens.{Givens};
+ghost use Rattle.amo_params.specs.declared.moves.Move.{Move};
+ghost use Rattle.amo_params.specs.declared.givens.Givens.{Givens};
 ghost use Rattle.amo_kk.specs.declared.model.World.{World};
 ghost use Rattle.amo_world.specs.Answer.{verdict};
 ghost use Rattle.amo_world.specs.declared.answer.Verdict.TheVariants.{Lawful};

@@ -1,6 +1,6 @@
 //! The text of stops: a schedule that is cut off after each of its moves.
 ghost use Rattle.std.specs.Prelude.{◌≡◌, ◌≤◌, ◌+◌, ◌*◌, ◌++◌, ℕ, true, false, length, OnOk, IfOk, string_bytes};
-ghost use Rattle.amo_givens.specs.Givens.{IsWorker, lone_bound};
+ghost use Rattle.amo_params.specs.Givens.{IsWorker, lone_bound};
 ghost use Rattle.amo_kk.specs.World.{process};
 ghost use Rattle.amo_kk.specs.Alone.{world_after_turns};
 ghost use Rattle.amo_world.specs.declared.answer.Verdict.TheVariants.{Lawful};

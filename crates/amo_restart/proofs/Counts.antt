@@ -7,10 +7,10 @@ use Rattle.amo_sets.specs.Lists.{numbered, put}
 use Rattle.amo_sets.specs.Sets.{has, AreDistinct, with_number, without_number}
 use Rattle.amo_sets.proofs.Numbers.{length-with_number}
 use Rattle.amo_sets.proofs.Removed.{has-without_other}
-use Rattle.amo_givens.specs.Givens.{AreGivens, bound, is_within}
+use Rattle.amo_params.specs.Givens.{AreGivens, bound, is_within}
 use Rattle.amo_kk.specs.Object.{first_object, has_in_hand, object_after}
 use Rattle.amo_kk.specs.Run.{claimed_jobs, has_claimed}
-use Rattle.amo_givens.specs.declared.givens.Givens.{Givens}
+use Rattle.amo_params.specs.declared.givens.Givens.{Givens}
 use Rattle.amo_kk.specs.declared.model.Object.{Object}
 use Rattle.amo_kk.specs.declared.event.Event.{Event}
 use Rattle.amo_kk.specs.declared.event.Event.TheVariants.{Done, Ended}

@@ -6,11 +6,11 @@ use Rattle.std.proofs.lemmas.List.{length_push}
 use Rattle.amo_sets.specs.Lists.{numbered, table}
 use Rattle.amo_sets.specs.Sets.{has, AreDistinct}
 use Rattle.amo_sets.proofs.Numbers.{has-append, has_push, length-table}
-use Rattle.amo_givens.specs.Givens.{AreGivens, IsJob, IsWorker}
+use Rattle.amo_params.specs.Givens.{AreGivens, IsJob, IsWorker}
 use Rattle.amo_kk.specs.Record.{wants_nothing, job_in_hand, jobs_in_hand, IsPast, IsClear}
 use Rattle.amo_kk.specs.Choice.{chosen_job, record_after_choice}
 use Rattle.amo_kk.specs.Lawful.{Announces, FitsPhase, IsSoundProcess, AreLawful}
-use Rattle.amo_givens.specs.declared.givens.Givens.{Givens}
+use Rattle.amo_params.specs.declared.givens.Givens.{Givens}
 use Rattle.amo_kk.specs.declared.phase.Phase.{Phase}
 use Rattle.amo_kk.specs.declared.phase.Phase.TheVariants.{Announcing, Trying, Reading, Claiming, Holding, Over, Left}
 use Rattle.amo_kk.specs.declared.model.Record.{Record}

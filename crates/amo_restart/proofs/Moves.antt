@@ -5,15 +5,15 @@ use Rattle.amo_sets.specs.Lists.{put}
 use Rattle.amo_kk.specs.Record.{can_leave}
 use Rattle.amo_kk.specs.Step.{want, record_after, record_after_leave, shown, events_of}
 use Rattle.amo_kk.specs.World.{process, loaded_value, process_after, world_with, world_after_step, world_after_move, world_after_moves, opening_world, world_of}
-use Rattle.amo_givens.specs.declared.givens.Givens.{Givens}
+use Rattle.amo_params.specs.declared.givens.Givens.{Givens}
 use Rattle.amo_kk.specs.declared.phase.Want.{Want}
 use Rattle.amo_kk.specs.declared.phase.Want.TheVariants.{StoreNext, LoadNext, LoadDone, StoreClaim, StoreDone, Nothing}
 use Rattle.amo_kk.specs.declared.model.Process.{Process}
 use Rattle.amo_kk.specs.declared.model.World.{World}
 use Rattle.amo_kk.specs.declared.event.Event.{Event}
 use Rattle.amo_kk.specs.declared.event.Event.TheVariants.{Halted, Left}
-use Rattle.amo_givens.specs.declared.moves.Move.{Move}
-use Rattle.amo_givens.specs.declared.moves.Move.TheVariants.{Turn, Halt, Leave}
+use Rattle.amo_params.specs.declared.moves.Move.{Move}
+use Rattle.amo_params.specs.declared.moves.Move.TheVariants.{Turn, Halt, Leave}
 use Rattle.amo_restart.specs.declared.model.Act.TheVariants.{Moves}
 use Rattle.amo_restart.specs.declared.model.Tale.{Tale}
 use Rattle.amo_restart.specs.Return.{entries_for, tale_after_move, tale_after_all, tale_of}

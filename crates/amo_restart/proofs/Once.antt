@@ -8,7 +8,7 @@ use Rattle.amo_sets.specs.Sets.{has, AreDistinct}
 use Rattle.amo_sets.proofs.Numbers.{has-append}
 use Rattle.amo_kk.specs.Object.{first_object}
 use Rattle.amo_kk.specs.Run.{claimed_jobs, has_claimed}
-use Rattle.amo_givens.specs.declared.givens.Givens.{Givens}
+use Rattle.amo_params.specs.declared.givens.Givens.{Givens}
 use Rattle.amo_kk.specs.declared.event.Event.{Event}
 use Rattle.amo_kk.specs.declared.event.Event.TheVariants.{Claimed, Done, Ended, Halted, Left}
 use Rattle.amo_kk.proofs.Kept.{not_both}

@@ -6,7 +6,7 @@ use Rattle.std.proofs.lemmas.Bool.{cases_eq, and_from, and_parts, eq-eqb, ne_eqb
 use Rattle.amo_sets.specs.Lists.{numbered, put}
 use Rattle.amo_sets.specs.Sets.{has}
 use Rattle.amo_sets.proofs.Numbers.{numbered-put_same, numbered-put_other, length-put}
-use Rattle.amo_givens.specs.Givens.{AreGivens, IsWorker, is_within}
+use Rattle.amo_params.specs.Givens.{AreGivens, IsWorker, is_within}
 use Rattle.amo_kk.specs.Object.{first_object, object_after}
 use Rattle.amo_kk.specs.Run.{object_after_all, IsRun}
 use Rattle.amo_kk.specs.Record.{wants_nothing, is_over, job_in_hand, jobs_in_hand}
@@ -14,13 +14,13 @@ use Rattle.amo_kk.specs.Choice.{record_after_choice}
 use Rattle.amo_kk.specs.Step.{ended_if_over}
 use Rattle.amo_kk.specs.World.{nobody, process, world_after_move, opening_world}
 use Rattle.amo_kk.specs.Lawful.{AreLawful, IsLawful, jobs_of, Agrees}
-use Rattle.amo_givens.specs.declared.givens.Givens.{Givens}
+use Rattle.amo_params.specs.declared.givens.Givens.{Givens}
 use Rattle.amo_kk.specs.declared.phase.Phase.TheVariants.{Holding}
 use Rattle.amo_kk.specs.declared.model.Record.{Record}
 use Rattle.amo_kk.specs.declared.model.Process.{Process}
 use Rattle.amo_kk.specs.declared.model.Object.{Object}
 use Rattle.amo_kk.specs.declared.event.Event.{Event}
-use Rattle.amo_givens.specs.declared.moves.Move.{Move}
+use Rattle.amo_params.specs.declared.moves.Move.{Move}
 use Rattle.amo_kk.proofs.Choice.{choice_cases}
 use Rattle.amo_kk.proofs.Steps.{agrees_put_gone}
 use Rattle.amo_kk.proofs.Worlds.{put_here, kept_lawful, move_lawful, opening_lawful}

@@ -1,16 +1,16 @@
 -- A world whose workers may begin again, each from its own words alone.
 use Rattle.std.specs.Prelude.{ℕ, zero, suc, ◌+◌, ◌*◌, drop, List, [], ◌∷◌, ◌++◌, map, if◌then◌else◌}
 use Rattle.amo_sets.specs.Lists.{put}
-use Rattle.amo_givens.specs.Givens.{is_within}
+use Rattle.amo_params.specs.Givens.{is_within}
 use Rattle.amo_kk.specs.Record.{wants_nothing}
 use Rattle.amo_kk.specs.Again.{entries_of, doubt, record_again}
 use Rattle.amo_kk.specs.Step.{ended_if_over}
 use Rattle.amo_kk.specs.World.{process, world_after_move, opening_world}
-use Rattle.amo_givens.specs.declared.givens.Givens.{Givens}
+use Rattle.amo_params.specs.declared.givens.Givens.{Givens}
 use Rattle.amo_kk.specs.declared.model.Process.{Process}
 use Rattle.amo_kk.specs.declared.model.World.{World}
 use Rattle.amo_kk.specs.declared.event.Event.{Event}
-use Rattle.amo_givens.specs.declared.moves.Move.{Move}
+use Rattle.amo_params.specs.declared.moves.Move.{Move}
 use Rattle.amo_restart.specs.declared.model.Act.{Act}
 use Rattle.amo_restart.specs.declared.model.Act.TheVariants.{Moves, Returns}
 use Rattle.amo_restart.specs.declared.model.Entry.{Entry}

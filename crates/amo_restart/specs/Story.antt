@@ -3,10 +3,10 @@
 use Rattle.std.specs.Prelude.{◌≡◌, ℕ, suc, Bool, true, false, ◌&&◌, List, [], ◌∷◌, ◌==◌, if◌then◌else◌, ⊤}
 use Rattle.amo_sets.specs.Lists.{put}
 use Rattle.amo_sets.specs.Sets.{has, with_number}
-use Rattle.amo_givens.specs.Givens.{is_within}
+use Rattle.amo_params.specs.Givens.{is_within}
 use Rattle.amo_kk.specs.Object.{has_in_hand, is_step, object_after}
 use Rattle.amo_kk.specs.Run.{done_jobs}
-use Rattle.amo_givens.specs.declared.givens.Givens.{Givens}
+use Rattle.amo_params.specs.declared.givens.Givens.{Givens}
 use Rattle.amo_kk.specs.declared.event.Event.{Event}
 use Rattle.amo_kk.specs.declared.event.Event.TheVariants.{Claimed, Done, Ended, Halted, Left}
 use Rattle.amo_kk.specs.declared.model.Object.{Object}

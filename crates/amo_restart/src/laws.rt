@@ -2,18 +2,18 @@
 //! Start at `tale_is_a_story`.
 ghost use Rattle.std.specs.Prelude.{◌≡◌, ◌≢◌, ◌≤◌, ◌+◌, ℕ, true, false, List, ◌∷◌, ◌++◌, length, map};
 ghost use Rattle.amo_sets.specs.Sets.{has, AreDistinct};
-ghost use Rattle.amo_givens.specs.Givens.{bound, IsWorker};
+ghost use Rattle.amo_params.specs.Givens.{bound, IsWorker};
 ghost use Rattle.amo_kk.specs.Record.{job_in_hand};
-ghost use Rattle.amo_givens.specs.Moves.{worker_of};
+ghost use Rattle.amo_params.specs.Moves.{worker_of};
 ghost use Rattle.amo_kk.specs.World.{process, done_count, world_of};
 ghost use Rattle.amo_kk.specs.Words.{words_of};
 ghost use Rattle.amo_kk.specs.Object.{first_object};
 ghost use Rattle.amo_kk.specs.Run.{claimed_jobs, has_claimed};
 ghost use Rattle.amo_kk.specs.Lawful.{IsLawful, Agrees};
-ghost use Rattle.amo_givens.specs.declared.givens.Givens.{Givens};
+ghost use Rattle.amo_params.specs.declared.givens.Givens.{Givens};
 ghost use Rattle.amo_kk.specs.declared.model.World.{World};
 ghost use Rattle.amo_kk.specs.declared.event.Event.TheVariants.{Done, Ended};
-ghost use Rattle.amo_givens.specs.declared.moves.Move.{Move};
+ghost use Rattle.amo_params.specs.declared.moves.Move.{Move};
 ghost use Rattle.amo_kk.specs.declared.model.Process.{Process};
 ghost use Rattle.amo_restart.specs.declared.model.Act.{Act};
 ghost use Rattle.amo_restart.specs.declared.model.Act.TheVariants.{Moves};

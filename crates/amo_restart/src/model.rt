@@ -1,6 +1,6 @@
 //! The values of which the definitions speak. No code makes one.
-use amo_givens::Move;
 use amo_kk::{Event, Process};
+use amo_params::Move;
 use std::collections::LinkedList;
 
 /// `Act`: one element of a schedule with restarts.

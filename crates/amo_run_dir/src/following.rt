@@ -1,6 +1,6 @@
 //! Reading of a run's answers and journals while others append to them.
 use crate::follower::Follower;
-use amo_givens::MAX_WORKERS;
+use amo_params::MAX_WORKERS;
 use amo_run_faults::{Fault, Item, Setting};
 use amo_run_files::{Extent, RoundFile};
 use std::alloc::Global;

@@ -1,6 +1,6 @@
 //! The arguments of a command about a run.
 ghost use Rattle.std.specs.Prelude.{◌≤◌};
-ghost use Rattle.amo_givens.specs.declared.limits.TheConstants.{MAX_WORKERS, MAX_BETA};
+ghost use Rattle.amo_params.specs.declared.limits.TheConstants.{MAX_WORKERS, MAX_BETA};
 
 /// A run's folder, and the conditions on it.
 #[derive(Clone, Copy)]

@@ -4,7 +4,7 @@ use Rattle.std.specs.Prelude.{All, flat_map}
 use Rattle.std.proofs.lemmas.List.{length-map}
 use Rattle.std.proofs.lemmas.List.Elements.{All-head, All-tail}
 use Rattle.amo_kk.specs.Words.{words_of}
-use Rattle.amo_givens.specs.declared.limits.TheConstants.{MAX_JOBS, MAX_WORKERS}
+use Rattle.amo_params.specs.declared.limits.TheConstants.{MAX_JOBS, MAX_WORKERS}
 use Rattle.amo_kk.specs.declared.model.Process.{Process}
 
 pub few_words : (workers jobs : ℕ) → workers ≤ MAX_WORKERS → jobs ≤ MAX_JOBS → workers * (jobs + 3) ≤ MAX_WORKERS * (MAX_JOBS + 3)

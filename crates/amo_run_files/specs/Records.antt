@@ -7,7 +7,7 @@ use Rattle.std.specs.Str.{bytes_eq}
 use Rattle.amo_decimal.specs.Numbers.{number_in}
 use Rattle.amo_run_log.specs.Texts.{ended}
 use Rattle.amo_run_log.specs.Numbers.{two_in, three_in, read_all}
-use Rattle.amo_givens.specs.declared.limits.TheConstants.{MAX_JOBS, MAX_WORKERS, MAX_BETA}
+use Rattle.amo_params.specs.declared.limits.TheConstants.{MAX_JOBS, MAX_WORKERS, MAX_BETA}
 use Rattle.amo_run_files.specs.declared.header.RoundHeader.{RoundHeader}
 use Rattle.amo_run_files.specs.declared.seats.RoundParams.{RoundParams}
 

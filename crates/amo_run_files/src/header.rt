@@ -9,7 +9,7 @@ ghost use Rattle.amo_run_files.specs.Records.{said_by, text_of_record, ascends_f
 
 use crate::seats::RoundParams;
 use amo_decimal::number_of_bytes;
-use amo_givens::{MAX_BETA, MAX_JOBS, MAX_WORKERS};
+use amo_params::{MAX_BETA, MAX_JOBS, MAX_WORKERS};
 use amo_run_log::{three_of_bytes, two_of_bytes};
 use std::alloc::{AllocError, Global};
 use std::mem;

@@ -1,6 +1,6 @@
 //! The places of a round's words in their file.
 ghost use Rattle.std.specs.Prelude.{◌≡◌, ◌+◌, ◌*◌, ◌^◌, ◌<◌, ◌≤◌};
-ghost use Rattle.amo_givens.specs.declared.limits.TheConstants.{MAX_JOBS, MAX_WORKERS};
+ghost use Rattle.amo_params.specs.declared.limits.TheConstants.{MAX_JOBS, MAX_WORKERS};
 ghost use Rattle.amo_run_files.specs.Words.{offset_of, word_count, words_len};
 ghost use Rattle.amo_run_files.specs.declared.head.TheConstants.{HEAD_LEN};
 

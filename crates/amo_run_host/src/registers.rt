@@ -1,6 +1,6 @@
 //! The words of a round, in a file: each is read and written whole, at its place.
 use amo_fs::open_private;
-use amo_givens::{MAX_JOBS, MAX_WORKERS};
+use amo_params::{MAX_JOBS, MAX_WORKERS};
 use amo_run_dir::path_of;
 use amo_run_faults::{Fault, Item, Setting, had, written};
 use amo_run_files::offset_of;

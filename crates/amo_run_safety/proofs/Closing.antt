@@ -4,7 +4,7 @@ use Rattle.std.proofs.Common.{◌≡◌, ◌⊎◌, inl, inr, ⊎_elim, ℕ, ◌
 use Rattle.std.specs.Prelude.{⊤}
 use Rattle.std.proofs.lemmas.Bool.{true≢false}
 use Rattle.amo_sets.specs.Lists.{numbered}
-use Rattle.amo_givens.specs.Givens.{IsJob}
+use Rattle.amo_params.specs.Givens.{IsJob}
 use Rattle.amo_driver.specs.declared.model.Deed.{Deed}
 use Rattle.amo_driver.specs.declared.model.Try.TheVariants.{Intend}
 use Rattle.amo_driver.specs.Stage.{Asking}

@@ -6,10 +6,10 @@ use Rattle.std.specs.Prelude.{⊤, ◌==◌, ◌&&◌, ◌||◌, if◌then◌els
 use Rattle.std.proofs.lemmas.Bool.{cases_eq, and_parts, eqb-true}
 use Rattle.amo_sets.specs.Lists.{table}
 use Rattle.amo_sets.specs.Sets.{has}
-use Rattle.amo_givens.specs.Givens.{IsWorker}
-use Rattle.amo_givens.specs.Limits.{within_limits}
-use Rattle.amo_givens.specs.declared.givens.Givens.{Givens}
-use Rattle.amo_givens.specs.declared.limits.TheConstants.{MAX_WORKERS}
+use Rattle.amo_params.specs.Givens.{IsWorker}
+use Rattle.amo_params.specs.Limits.{within_limits}
+use Rattle.amo_params.specs.declared.givens.Givens.{Givens}
+use Rattle.amo_params.specs.declared.limits.TheConstants.{MAX_WORKERS}
 use Rattle.amo_driver.specs.declared.answer.JobResult.TheVariants.{Done, Doubt}
 use Rattle.amo_driver.specs.declared.answer.Reply.TheVariants.{Answered}
 use Rattle.amo_driver.specs.declared.answer.Way.TheVariants.{Go, Leave}

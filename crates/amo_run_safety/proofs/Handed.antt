@@ -6,9 +6,9 @@ use Rattle.std.proofs.lemmas.Option.{none-some, same_Some}
 use Rattle.amo_sets.specs.Lists.{numbered, table}
 use Rattle.amo_sets.specs.Sets.{has}
 use Rattle.amo_sets.proofs.Numbers.{has-append}
-use Rattle.amo_givens.specs.declared.limits.TheConstants.{MAX_WORKERS}
-use Rattle.amo_givens.specs.Givens.{IsJob, IsWorker}
-use Rattle.amo_givens.specs.declared.givens.Givens.{Givens}
+use Rattle.amo_params.specs.declared.limits.TheConstants.{MAX_WORKERS}
+use Rattle.amo_params.specs.Givens.{IsJob, IsWorker}
+use Rattle.amo_params.specs.declared.givens.Givens.{Givens}
 use Rattle.amo_process.specs.Stepped.{ProcessView}
 use Rattle.amo_driver.specs.declared.model.Deed.{Deed}
 use Rattle.amo_driver.specs.declared.model.Try.{Try}

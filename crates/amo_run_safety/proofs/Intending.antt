@@ -3,7 +3,7 @@
 use Rattle.std.proofs.Common.{◌≡◌, ℕ, List, Option, Some, None, refl, sym, ap, ◌∙◌, subst}
 use Rattle.std.proofs.lemmas.Bool.{true≢false}
 use Rattle.amo_sets.specs.Lists.{numbered}
-use Rattle.amo_givens.specs.Givens.{IsJob}
+use Rattle.amo_params.specs.Givens.{IsJob}
 use Rattle.amo_driver.specs.declared.model.Try.{Try}
 use Rattle.amo_driver.specs.declared.model.Try.TheVariants.{Intend}
 use Rattle.amo_driver.specs.Stage.{Stage}

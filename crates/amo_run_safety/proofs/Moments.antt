@@ -5,9 +5,9 @@ use Rattle.std.proofs.lemmas.Bool.{true≢false, cases_eq, ne_eqb, or_from}
 use Rattle.amo_sets.specs.Lists.{numbered}
 use Rattle.amo_sets.specs.Sets.{has, AreDistinct}
 use Rattle.amo_sets.proofs.Numbers.{numbered-put_other, has_push}
-use Rattle.amo_givens.specs.Givens.{IsWorker, IsJob}
+use Rattle.amo_params.specs.Givens.{IsWorker, IsJob}
 use Rattle.amo_kk.specs.Lawful.{FitsPhase}
-use Rattle.amo_givens.specs.declared.givens.Givens.{Givens}
+use Rattle.amo_params.specs.declared.givens.Givens.{Givens}
 use Rattle.amo_process.specs.Heard.{standing_of}
 use Rattle.amo_process.specs.Shared.{shared_of, AreOfWorkers}
 use Rattle.amo_process.specs.declared.model.Happening.{Happening}

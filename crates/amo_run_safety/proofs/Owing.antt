@@ -1,9 +1,9 @@
 -- Outcomes that are owed: one is lost with its process, one is appended alone, and one is appended
 -- with the next intent.
 use Rattle.std.proofs.Common.{◌≡◌, true, List, [], ◌∷◌, ◌++◌, Some, refl, arith}
-use Rattle.amo_givens.specs.Givens.{IsWorker}
-use Rattle.amo_givens.specs.Limits.{within_limits}
-use Rattle.amo_givens.specs.declared.givens.Givens.{Givens}
+use Rattle.amo_params.specs.Givens.{IsWorker}
+use Rattle.amo_params.specs.Limits.{within_limits}
+use Rattle.amo_params.specs.declared.givens.Givens.{Givens}
 use Rattle.amo_driver.specs.declared.answer.JobResult.TheVariants.{Done}
 use Rattle.amo_driver.specs.declared.answer.Reply.TheVariants.{Answered}
 use Rattle.amo_driver.specs.declared.answer.Way.TheVariants.{Go}

@@ -1,6 +1,6 @@
 -- A deed that a process in a round may do by its log may be done in the run.
 use Rattle.std.proofs.Common.{◌≡◌, ℕ, ◌≤◌, List, [], ◌∷◌, ◌++◌, Some, sym, subst}
-use Rattle.amo_givens.specs.Givens.{IsWorker}
+use Rattle.amo_params.specs.Givens.{IsWorker}
 use Rattle.amo_driver.specs.Course.{AreDue, first_stage}
 use Rattle.amo_driver.specs.Standing.{MayCall}
 use Rattle.amo_driver.specs.declared.model.Deed.{Deed}

@@ -3,8 +3,8 @@ use Rattle.std.specs.Prelude.{◌≡◌, ◌⊎◌, ⊤, ℕ, ◌+◌, ◌≤◌
 use Rattle.std.specs.List.{AllByRecursion}
 use Rattle.amo_sets.specs.Lists.{numbered, table}
 use Rattle.amo_sets.specs.Sets.{has}
-use Rattle.amo_givens.specs.declared.givens.Givens.{Givens}
-use Rattle.amo_givens.specs.declared.limits.TheConstants.{MAX_WORKERS}
+use Rattle.amo_params.specs.declared.givens.Givens.{Givens}
+use Rattle.amo_params.specs.declared.limits.TheConstants.{MAX_WORKERS}
 use Rattle.amo_driver.specs.declared.answer.JobResult.{JobResult}
 use Rattle.amo_driver.specs.declared.answer.JobResult.TheVariants.{Done, Doubt, Unbegun, Untouched}
 use Rattle.amo_driver.specs.declared.model.Deed.{Deed}

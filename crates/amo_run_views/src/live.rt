@@ -1,7 +1,7 @@
 //! Following of a run: it prints a line of JSON a second, without any lock. Nothing is recovered,
 //! made or written. Start with [`follow`].
-use amo_givens::MAX_WORKERS;
 use amo_host_parts::{now, print};
+use amo_params::MAX_WORKERS;
 use amo_run_dir::{FollowedFiles, bytes_of, known, record_of};
 use amo_run_faults::{Fault, Item, Setting};
 use amo_run_files::RoundFile;

@@ -5,8 +5,8 @@ ghost use Rattle.amo_run_faults.specs.declared.error.Fault.{Fault as FaultView};
 ghost use Rattle.amo_run_faults.specs.declared.error.Fault.TheVariants.{Memory};
 ghost use Rattle.amo_run_views.specs.Wrong.{IsWell};
 
-use amo_givens::MAX_WORKERS;
 use amo_journal::{Checksum, read_log};
+use amo_params::MAX_WORKERS;
 use amo_run_dir::{
     Look, counted_in, fault_of, first_checksum, known, len_of, look_at_log, record_of,
 };

@@ -7,9 +7,9 @@ use Rattle.amo_render.specs.declared.writing.ReplayFault.{ReplayFault}
 use Rattle.amo_render.specs.declared.writing.ReplayFault.TheVariants as replay
 use Rattle.amo_render.specs.Written.{Writes, Refuses}
 use Rattle.amo_render.specs.OfBytes.{WritesOf, RefusesOf}
-use Rattle.amo_explain.specs.Heading.{BeginsWith, explanation_head}
+use Rattle.amo_explain_faults.specs.Heading.{BeginsWith, explanation_head}
 use Rattle.amo_judge.specs.Judgement.{judgement}
-use Rattle.amo_run_judge.specs.Judgement.{IsAnswer}
+use Rattle.amo_call_log_judge.specs.Judgement.{IsAnswer}
 use Rattle.amo_show_commands.specs.Shown.{text_of}
 use Rattle.amo_worst_case.specs.Answer.{worst_of}
 use Rattle.amo_state_space.specs.Answer.{IsAllOfBytes, AreNoPlan}

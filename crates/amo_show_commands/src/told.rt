@@ -1,8 +1,8 @@
 //! The texts on any bytes.
-use amo_explain::explanation;
+use amo_call_log_judge::run_judgement;
+use amo_explain_faults::explanation;
 use amo_judge::judgement;
 use amo_render::{BytesText, ReplayFault};
-use amo_run_judge::run_judgement;
 use std::alloc::Global;
 
 /// A text on bytes, whatever they are.

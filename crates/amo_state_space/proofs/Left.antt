@@ -3,11 +3,11 @@ use Rattle.std.proofs.Common.{◌≡◌, ℕ, suc, ◌+◌, ◌-◌, ◌<◌, �
 use Rattle.std.specs.Prelude.{if◌then◌else◌, nat_lt}
 use Rattle.std.proofs.lemmas.Bool.{and_parts, ltb-true, not-true, true≢false}
 use Rattle.std.proofs.lemmas.List.{append-nil}
-use Rattle.amo_givens.specs.Moves.{is_halt}
+use Rattle.amo_params.specs.Moves.{is_halt}
 use Rattle.amo_kk.specs.World.{process, world_of, world_after_move, world_after_moves, opening_world}
-use Rattle.amo_givens.specs.declared.givens.Givens.{Givens}
-use Rattle.amo_givens.specs.declared.moves.Move.{Move}
-use Rattle.amo_givens.specs.declared.moves.Move.TheVariants.{Turn, Halt, Leave}
+use Rattle.amo_params.specs.declared.givens.Givens.{Givens}
+use Rattle.amo_params.specs.declared.moves.Move.{Move}
+use Rattle.amo_params.specs.declared.moves.Move.TheVariants.{Turn, Halt, Leave}
 use Rattle.amo_kk.specs.declared.model.World.{World}
 use Rattle.amo_bounds.specs.Fewest.{stopped}
 use Rattle.amo_bounds.specs.Rest.{is_taken, turns_taken}

@@ -1,10 +1,10 @@
 -- Moves that a search makes and takes back.
 use Rattle.std.proofs.Common.{◌≡◌, ℕ, true, List, [], ◌∷◌, ◌++◌, take, refl, sym, ap, ◌∙◌, subst}
-use Rattle.amo_givens.specs.Givens.{IsWorker}
-use Rattle.amo_givens.specs.Moves.{worker_of, are_in_range}
+use Rattle.amo_params.specs.Givens.{IsWorker}
+use Rattle.amo_params.specs.Moves.{worker_of, are_in_range}
 use Rattle.amo_kk.specs.World.{world_after_moves, opening_world}
-use Rattle.amo_givens.specs.declared.givens.Givens.{Givens}
-use Rattle.amo_givens.specs.declared.moves.Move.{Move}
+use Rattle.amo_params.specs.declared.givens.Givens.{Givens}
+use Rattle.amo_params.specs.declared.moves.Move.{Move}
 use Rattle.amo_kk.proofs.Moves.{world_after_moves-append}
 use Rattle.amo_plan.proofs.WithinLemmas.{in_range-append, in_range-take, one_in_range}
 use Rattle.amo_world.specs.Views.{WorldView}

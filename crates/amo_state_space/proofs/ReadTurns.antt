@@ -6,10 +6,10 @@ use Rattle.std.proofs.lemmas.Bool.{and_parts, le-leb}
 use Rattle.std.proofs.lemmas.Bool.Decides.{nat_tests}
 use Rattle.std.proofs.lemmas.Fmt.{decimal_nonempty}
 use Rattle.std.proofs.lemmas.List.{length-map}
-use Rattle.amo_givens.specs.Givens.{is_within}
-use Rattle.amo_givens.specs.Moves.{are_in_range}
-use Rattle.amo_givens.specs.declared.givens.Givens.{Givens}
-use Rattle.amo_givens.specs.declared.moves.Move.TheVariants.{Turn}
+use Rattle.amo_params.specs.Givens.{is_within}
+use Rattle.amo_params.specs.Moves.{are_in_range}
+use Rattle.amo_params.specs.declared.givens.Givens.{Givens}
+use Rattle.amo_params.specs.declared.moves.Move.TheVariants.{Turn}
 use Rattle.amo_plan.specs.declared.fault.PlanFault.TheVariants.{TooLong}
 use Rattle.amo_plan.specs.declared.limits.TheConstants.{MOST_MOVES}
 use Rattle.amo_plan.specs.Passing.{◌>>=◌, unless}

@@ -2,13 +2,13 @@
 use Rattle.std.proofs.Common.{◌≡◌, ℕ, suc, ◌-◌, ◌<◌, true, false, List, [], ◌∷◌, ◌++◌, length, map, refl, sym, ap, ◌∙◌, subst, length-append, Option, Some, None, arith}
 use Rattle.std.proofs.lemmas.List.{length-map, map-append}
 use Rattle.amo_sets.proofs.Tables.{numbered-table}
-use Rattle.amo_givens.specs.Givens.{IsWorker}
+use Rattle.amo_params.specs.Givens.{IsWorker}
 use Rattle.amo_kk.specs.Record.{wants_nothing}
-use Rattle.amo_givens.specs.Moves.{are_in_range}
+use Rattle.amo_params.specs.Moves.{are_in_range}
 use Rattle.amo_kk.specs.World.{nobody, process, first_process, world_of, world_after_turn, opening_world}
-use Rattle.amo_givens.specs.declared.givens.Givens.{Givens}
-use Rattle.amo_givens.specs.declared.moves.Move.{Move}
-use Rattle.amo_givens.specs.declared.moves.Move.TheVariants.{Turn}
+use Rattle.amo_params.specs.declared.givens.Givens.{Givens}
+use Rattle.amo_params.specs.declared.moves.Move.{Move}
+use Rattle.amo_params.specs.declared.moves.Move.TheVariants.{Turn}
 use Rattle.amo_kk.specs.declared.model.Process.{Process}
 use Rattle.amo_kk.specs.declared.model.World.{World}
 use Rattle.amo_kk.proofs.FirstChoice.{first_over}

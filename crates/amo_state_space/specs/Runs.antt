@@ -1,9 +1,9 @@
 -- Runs in which nobody stops, from the opening world until all have ended.
 use Rattle.std.specs.Prelude.{◌≡◌, true, List, [], length}
-use Rattle.amo_givens.specs.Moves.{are_in_range}
+use Rattle.amo_params.specs.Moves.{are_in_range}
 use Rattle.amo_kk.specs.World.{opening_world}
-use Rattle.amo_givens.specs.declared.givens.Givens.{Givens}
-use Rattle.amo_givens.specs.declared.moves.Move.{Move}
+use Rattle.amo_params.specs.declared.givens.Givens.{Givens}
+use Rattle.amo_params.specs.declared.moves.Move.{Move}
 use Rattle.amo_bounds.specs.Fewest.{ComesToEnd, stopped}
 use Rattle.amo_bounds.specs.Rest.{turns_taken}
 

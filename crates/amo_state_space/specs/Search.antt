@@ -1,11 +1,11 @@
 -- Within this crate: a search, and the moves that it makes.
 use Rattle.std.specs.Prelude.{◌≡◌, ℕ, ◌+◌, Bool, true, false, not, ◌&&◌, List, nat_lt, Option, Some, None}
-use Rattle.amo_givens.specs.Givens.{IsWorker}
-use Rattle.amo_givens.specs.Moves.{are_in_range}
+use Rattle.amo_params.specs.Givens.{IsWorker}
+use Rattle.amo_params.specs.Moves.{are_in_range}
 use Rattle.amo_kk.specs.World.{process, world_of}
-use Rattle.amo_givens.specs.declared.givens.Givens.{Givens}
-use Rattle.amo_givens.specs.declared.moves.Move.{Move}
-use Rattle.amo_givens.specs.declared.moves.Move.TheVariants.{Turn, Halt, Leave}
+use Rattle.amo_params.specs.declared.givens.Givens.{Givens}
+use Rattle.amo_params.specs.declared.moves.Move.{Move}
+use Rattle.amo_params.specs.declared.moves.Move.TheVariants.{Turn, Halt, Leave}
 use Rattle.amo_kk.specs.declared.model.World.{World}
 use Rattle.amo_world.specs.Views.{WorldView}
 

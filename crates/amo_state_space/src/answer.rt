@@ -1,11 +1,11 @@
 //! The text on a plan.
 ghost use Rattle.std.specs.Prelude.{◌≡◌, ◌++◌, ◌≤◌, OnOk, IfOk, string_bytes};
-ghost use Rattle.amo_givens.specs.declared.limits.TheConstants.{MAX_WORKERS};
+ghost use Rattle.amo_params.specs.declared.limits.TheConstants.{MAX_WORKERS};
 ghost use Rattle.amo_render.specs.Numbers.{spaced};
 ghost use Rattle.amo_state_space.specs.Answer.{IsAllOf, found_text, most_jobs, too_many, turn_words, unit_word};
 
 use crate::longest::{Found, find};
-use amo_givens::Givens;
+use amo_params::Givens;
 use amo_render::{BytesText, ReplayFault, plan_of_bytes};
 use amo_worst_case::{fewest, worst_schedule};
 use std::alloc::{AllocError, Global};

@@ -1,7 +1,7 @@
 //! The theorem over the runs that are shown. Nothing here runs: the function's contract is a law.
 ghost use Rattle.std.specs.Prelude.{◌≡◌, ◌≤◌, ℕ, List, Ok, length, map};
-ghost use Rattle.amo_givens.specs.declared.givens.Givens.{Givens};
-ghost use Rattle.amo_givens.specs.declared.moves.Move.TheVariants.{Turn};
+ghost use Rattle.amo_params.specs.declared.givens.Givens.{Givens};
+ghost use Rattle.amo_params.specs.declared.moves.Move.TheVariants.{Turn};
 ghost use Rattle.amo_plan.specs.Schedule.{read_schedule};
 ghost use Rattle.amo_plan.specs.declared.limits.TheConstants.{MOST_MOVES};
 ghost use Rattle.amo_state_space.specs.Answer.{turn_words};

@@ -1,11 +1,11 @@
 //! The longest run, along the worlds that the search has found.
 ghost use Rattle.std.specs.Prelude.{◌≡◌, ◌<◌, map, IfOk};
-ghost use Rattle.amo_givens.specs.declared.moves.Move.TheVariants.{Turn};
+ghost use Rattle.amo_params.specs.declared.moves.Move.TheVariants.{Turn};
 ghost use Rattle.amo_state_space.specs.Runs.{IsWholeRun};
 ghost use Rattle.amo_state_space.specs.Search.{IsNext};
 
 use crate::search::Search;
-use amo_givens::Givens;
+use amo_params::Givens;
 use amo_world::World;
 use std::alloc::{AllocError, Global};
 

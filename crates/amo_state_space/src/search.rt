@@ -1,13 +1,13 @@
 //! The search through all worlds, each of which is looked at once.
 ghost use Rattle.std.specs.Prelude.{◌≡◌, ◌≤◌, ◌<◌, ◌+◌, ◌*◌, ◌++◌, ◌∷◌, [], length, take, if◌then◌else◌, IfOk, OnOk};
-ghost use Rattle.amo_givens.specs.Givens.{IsWorker};
-ghost use Rattle.amo_givens.specs.Moves.{is_halt, worker_of};
+ghost use Rattle.amo_params.specs.Givens.{IsWorker};
+ghost use Rattle.amo_params.specs.Moves.{is_halt, worker_of};
 ghost use Rattle.amo_kk.specs.World.{world_of};
 ghost use Rattle.amo_bounds.specs.Fewest.{stopped};
 ghost use Rattle.amo_state_space.specs.Search.{SearchView, is_allowed};
 
 use crate::known::key_of;
-use amo_givens::{Givens, Move};
+use amo_params::{Givens, Move};
 use amo_world::World;
 use std::alloc::{AllocError, Global};
 use std::collections::HashMap;

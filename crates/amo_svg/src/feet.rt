@@ -1,6 +1,6 @@
 //! Writes what stands below the lanes of a picture of rows.
 ghost use Rattle.std.specs.Prelude.{◌≡◌, ◌++◌, ◌<◌, ◌^◌, OnOk, string_bytes};
-ghost use Rattle.amo_givens.specs.Givens.{IsWorker};
+ghost use Rattle.amo_params.specs.Givens.{IsWorker};
 ghost use Rattle.amo_svg.specs.Feet.{state_text, counts_words, counts_text, lane_foot, lane_feet};
 
 use crate::elements::push_text_start;

@@ -1,7 +1,7 @@
 //! The jobs that nobody has claimed in a world.
 ghost use Rattle.std.specs.Prelude.{◌≡◌, not, IfOk};
 ghost use Rattle.amo_sets.specs.Sets.{has};
-ghost use Rattle.amo_givens.specs.Givens.{IsJob};
+ghost use Rattle.amo_params.specs.Givens.{IsJob};
 ghost use Rattle.amo_kk.specs.Run.{claimed_jobs};
 ghost use Rattle.amo_render.specs.Happened.{unclaimed_jobs};
 

@@ -6,12 +6,12 @@ use Rattle.std.proofs.lemmas.Bool.{ne_eqb, eqb-true, true≢false}
 use Rattle.amo_sets.specs.Lists.{numbered, put}
 use Rattle.amo_sets.specs.Sets.{has, with_number}
 use Rattle.amo_sets.proofs.Numbers.{has-with_number}
-use Rattle.amo_givens.specs.Givens.{IsWorker, next_other}
+use Rattle.amo_params.specs.Givens.{IsWorker, next_other}
 use Rattle.amo_kk.specs.Lawful.{IsSoundRecord, FitsPhase}
 use Rattle.amo_kk.specs.Record.{is_open}
 use Rattle.amo_kk.specs.Choice.{record_after_choice, record_after_check}
 use Rattle.amo_kk.specs.Step.{want_in, is_load, with_announced, record_at_row, record_at_announcement, record_after_phase, record_after}
-use Rattle.amo_givens.specs.declared.givens.Givens.{Givens}
+use Rattle.amo_params.specs.declared.givens.Givens.{Givens}
 use Rattle.amo_kk.specs.declared.model.Record.{Record}
 use Rattle.amo_kk.specs.declared.phase.Phase.{Phase}
 use Rattle.amo_kk.specs.declared.phase.Phase.TheVariants.{Announcing, Trying, Reading, Claiming, Holding, Over, Left}

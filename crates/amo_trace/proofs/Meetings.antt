@@ -6,16 +6,16 @@ use Rattle.std.proofs.lemmas.List.{get_or_past}
 use Rattle.amo_sets.specs.Lists.{table}
 use Rattle.amo_sets.proofs.Tables.{numbered-table}
 use Rattle.amo_sets.proofs.Numbers.{length-table}
-use Rattle.amo_givens.specs.Givens.{AreGivens}
+use Rattle.amo_params.specs.Givens.{AreGivens}
 use Rattle.amo_kk.specs.Lawful.{IsLawful}
 use Rattle.amo_kk.specs.Step.{want, record_after_leave}
 use Rattle.amo_kk.specs.Choice.{first_record}
-use Rattle.amo_givens.specs.Moves.{worker_of}
+use Rattle.amo_params.specs.Moves.{worker_of}
 use Rattle.amo_kk.specs.World.{nobody, process, process_after, loaded_value, first_process, opening_world, world_with, world_after_turn, world_after_halt, world_after_leave, world_after_move}
 use Rattle.amo_kk.specs.declared.event.Event.TheVariants.{Halted, Left as LeftEvent}
-use Rattle.amo_givens.specs.declared.moves.Move.{Move}
-use Rattle.amo_givens.specs.declared.moves.Move.TheVariants.{Turn, Halt, Leave}
-use Rattle.amo_givens.specs.declared.givens.Givens.{Givens}
+use Rattle.amo_params.specs.declared.moves.Move.{Move}
+use Rattle.amo_params.specs.declared.moves.Move.TheVariants.{Turn, Halt, Leave}
+use Rattle.amo_params.specs.declared.givens.Givens.{Givens}
 use Rattle.amo_kk.specs.declared.model.Process.{Process}
 use Rattle.amo_kk.specs.declared.model.Record.{Record}
 use Rattle.amo_kk.specs.declared.model.World.{World}

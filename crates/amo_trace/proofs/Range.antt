@@ -1,11 +1,11 @@
 -- All moves of a plan are of its workers.
 use Rattle.std.proofs.Common.{◌≡◌, ℕ, zero, suc, ◌≤◌, true, List, [], ◌∷◌, ◌++◌, refl, arith}
 use Rattle.amo_sets.specs.Lists.{table}
-use Rattle.amo_givens.specs.Moves.{are_in_range}
+use Rattle.amo_params.specs.Moves.{are_in_range}
 use Rattle.amo_kk.specs.World.{round, rounds}
-use Rattle.amo_givens.specs.declared.moves.Move.{Move}
-use Rattle.amo_givens.specs.declared.moves.Move.TheVariants.{Turn}
-use Rattle.amo_givens.specs.declared.givens.Givens.{Givens}
+use Rattle.amo_params.specs.declared.moves.Move.{Move}
+use Rattle.amo_params.specs.declared.moves.Move.TheVariants.{Turn}
+use Rattle.amo_params.specs.declared.givens.Givens.{Givens}
 use Rattle.amo_plan.proofs.WithinLemmas.{in_range-append, one_in_range}
 
 turns_in_range : (g : Givens) (n : ℕ) → n ≤ g.workers → are_in_range g (table n (λ p. Turn p)) ≡ true

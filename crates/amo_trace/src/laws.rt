@@ -1,8 +1,8 @@
 //! The theorem over the transitions of a run. Nothing here runs: the function's contract is a law.
 ghost use Rattle.std.specs.Prelude.{◌≡◌, true, false, List, [], ◌∷◌, ◌++◌};
 ghost use Rattle.amo_kk.specs.World.{opening_world};
-ghost use Rattle.amo_givens.specs.declared.moves.Move.{Move};
-ghost use Rattle.amo_givens.specs.declared.givens.Givens.{Givens};
+ghost use Rattle.amo_params.specs.declared.moves.Move.{Move};
+ghost use Rattle.amo_params.specs.declared.givens.Givens.{Givens};
 ghost use Rattle.amo_trace.specs.Attempts.{has_met, looks_on};
 ghost use Rattle.amo_trace.specs.Transitions.{loads, fails, transitions};
 ghost use Rattle.amo_trace.specs.declared.transition.Transition.{Transition};

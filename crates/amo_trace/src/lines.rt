@@ -1,6 +1,6 @@
 //! Writes the lines of a trace.
 ghost use Rattle.std.specs.Prelude.{◌≡◌, ◌++◌, OnOk, string_bytes};
-ghost use Rattle.amo_givens.specs.Givens.{IsWorker};
+ghost use Rattle.amo_params.specs.Givens.{IsWorker};
 ghost use Rattle.amo_kk.specs.World.{process};
 ghost use Rattle.amo_trace.specs.Trace.{next_word, claim_word, done_word, equals, wanted_word, want_words, act_words, fact_words, phase_words, state_words, opening_line, opening_lines, transition_words, transition_lines};
 

@@ -1,14 +1,14 @@
 //! The transitions of a plan.
 ghost use Rattle.std.specs.Prelude.{◌≡◌, ◌++◌, true, OnOk, IfOk};
-ghost use Rattle.amo_givens.specs.Givens.{IsWorker};
-ghost use Rattle.amo_givens.specs.Moves.{worker_of, are_in_range};
+ghost use Rattle.amo_params.specs.Givens.{IsWorker};
+ghost use Rattle.amo_params.specs.Moves.{worker_of, are_in_range};
 ghost use Rattle.amo_kk.specs.World.{world_after_move, world_after_moves, round};
 ghost use Rattle.amo_plan.specs.PlanSeen.{plan_seen};
 ghost use Rattle.amo_report.specs.Texts.{moves_of, plan_world};
 ghost use Rattle.amo_trace.specs.Transitions.{act_here, act_of, all_gone, transition_of, transitions, transitions_of};
 
 use crate::transition::{Act, Transition};
-use amo_givens::Move;
+use amo_params::Move;
 use amo_plan::Plan;
 use amo_world::World;
 use std::alloc::{AllocError, Global};

@@ -5,12 +5,12 @@ use Rattle.std.proofs.lemmas.List.{take_more, take_all}
 use Rattle.std.proofs.lemmas.List.Sums.{sum_by-append, sum_by-cons}
 use lib.ListN.{get_elem?}
 use Rattle.amo_sets.specs.Sets.{has}
-use Rattle.amo_givens.specs.Givens.{IsWorker, bound}
+use Rattle.amo_params.specs.Givens.{IsWorker, bound}
 use Rattle.amo_kk.specs.Record.{is_over}
 use Rattle.amo_kk.specs.World.{process, done_count, world_of}
 use Rattle.amo_kk.specs.Machine.{LocalView}
-use Rattle.amo_givens.specs.declared.givens.Givens.{Givens}
-use Rattle.amo_givens.specs.declared.moves.Move.{Move}
+use Rattle.amo_params.specs.declared.givens.Givens.{Givens}
+use Rattle.amo_params.specs.declared.moves.Move.{Move}
 use Rattle.amo_kk.proofs.Ends.{enough_done}
 use Rattle.amo_kk.proofs.RowSums.{total, someone, rows_fit}
 use Rattle.amo_sets.proofs.Numbers.{count_le_all}

@@ -12,13 +12,13 @@ use Rattle.atomic_table.proofs.Lists.{set_here, set_else, at_map}
 use Rattle.amo_sets.specs.Sets.{has}
 use Rattle.amo_sets.proofs.Numbers.{length-table}
 use Rattle.amo_sets.proofs.Tables.{numbered-table}
-use Rattle.amo_givens.specs.Givens.{IsWorker}
+use Rattle.amo_params.specs.Givens.{IsWorker}
 use Rattle.amo_kk.specs.Record.{empty_record}
 use Rattle.amo_kk.specs.Choice.{first_record}
 use Rattle.amo_kk.specs.Words.{word_count}
 use Rattle.amo_kk.specs.World.{nobody, process, first_process, opening_world, world_of}
 use Rattle.amo_kk.specs.Machine.{LocalView}
-use Rattle.amo_givens.specs.declared.givens.Givens.{Givens}
+use Rattle.amo_params.specs.declared.givens.Givens.{Givens}
 use Rattle.amo_kk.specs.declared.model.Process.{Process}
 use Rattle.amo_kk.proofs.Choice.{choice_cases}
 use Rattle.amo_kk.proofs.OpenWords.{opening_words}

@@ -5,16 +5,16 @@ use mathlib.Core.Option.{none, some}
 use lib.ListN.{get_elem?}
 use Rattle.atomic_table.specs.Table.{State, Me, step, keeps, takes, Allows}
 use Rattle.amo_kk.specs.Alone.{is_claiming}
-use Rattle.amo_givens.specs.Givens.{IsJob, IsWorker}
+use Rattle.amo_params.specs.Givens.{IsJob, IsWorker}
 use Rattle.amo_kk.specs.Record.{wants_nothing, can_leave}
 use Rattle.amo_kk.specs.Step.{want, is_load, is_store, MayLoad}
 use Rattle.amo_kk.specs.World.{process, loaded_value, world_after_turn, world_after_leave, opening_world, world_of}
 use Rattle.amo_kk.specs.Words.{words_of, next_word, loaded_word, words_after}
 use Rattle.amo_kk.specs.Lawful.{IsLawful}
 use Rattle.amo_kk.specs.Machine.{LocalView}
-use Rattle.amo_givens.specs.declared.givens.Givens.{Givens}
-use Rattle.amo_givens.specs.declared.moves.Move.{Move}
-use Rattle.amo_givens.specs.declared.moves.Move.TheVariants.{Turn, Leave}
+use Rattle.amo_params.specs.declared.givens.Givens.{Givens}
+use Rattle.amo_params.specs.declared.moves.Move.{Move}
+use Rattle.amo_params.specs.declared.moves.Move.TheVariants.{Turn, Leave}
 use Rattle.amo_kk.specs.declared.phase.Phase.TheVariants.{Claiming}
 use Rattle.amo_kk.specs.declared.phase.Want.{Want}
 use Rattle.amo_kk.specs.declared.phase.Want.TheVariants.{StoreClaim}

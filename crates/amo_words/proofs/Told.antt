@@ -5,15 +5,15 @@ use Rattle.std.proofs.lemmas.Bool.{cases_lt}
 use Rattle.std.proofs.lemmas.List.{length-map, get_or-map, append-nil, length_push}
 use Rattle.amo_sets.specs.Lists.{numbered, table}
 use Rattle.amo_sets.proofs.Tables.{numbered-table, table_is}
-use Rattle.amo_givens.specs.Givens.{IsWorker, bound}
+use Rattle.amo_params.specs.Givens.{IsWorker, bound}
 use Rattle.amo_kk.specs.World.{nobody, world_of}
 use Rattle.amo_kk.specs.Words.{next_word, claim_word, done_word}
-use Rattle.amo_givens.specs.declared.givens.Givens.{Givens}
+use Rattle.amo_params.specs.declared.givens.Givens.{Givens}
 use Rattle.amo_kk.specs.declared.model.Process.{Process}
 use Rattle.amo_kk.proofs.Fit.{claims_fit}
 use mathlib.Core.Option.{some}
 use lib.ListN.{get_elem?}
-use Rattle.amo_givens.specs.declared.moves.Move.{Move}
+use Rattle.amo_params.specs.declared.moves.Move.{Move}
 use Rattle.amo_words.specs.declared.rule.Spot.{Spot}
 use Rattle.amo_words.specs.declared.floor.settling.Settlement.{Settlement}
 use Rattle.amo_words.specs.Faces.{AreShown, ClosedView}

@@ -14,14 +14,14 @@ use Rattle.atomic_table.proofs.Lists.{drop_at}
 use Rattle.amo_sets.specs.Lists.{numbered}
 use Rattle.amo_sets.specs.Sets.{has}
 use Rattle.amo_sets.proofs.Numbers.{has-append}
-use Rattle.amo_givens.specs.Givens.{bound}
+use Rattle.amo_params.specs.Givens.{bound}
 use Rattle.amo_kk.specs.Record.{is_over}
 use Rattle.amo_kk.specs.World.{nobody, world_of}
 use Rattle.amo_kk.specs.Words.{words_of}
 use Rattle.amo_kk.specs.Lawful.{IsLawful}
 use Rattle.amo_kk.specs.Machine.{LocalView}
-use Rattle.amo_givens.specs.declared.givens.Givens.{Givens}
-use Rattle.amo_givens.specs.declared.moves.Move.{Move}
+use Rattle.amo_params.specs.declared.givens.Givens.{Givens}
+use Rattle.amo_params.specs.declared.moves.Move.{Move}
 use Rattle.amo_kk.specs.declared.model.Process.{Process}
 use Rattle.amo_words.specs.declared.rule.Role.TheVariants.{Keeping}
 use Rattle.amo_words.specs.declared.rule.Spot.{Spot}

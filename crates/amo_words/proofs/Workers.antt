@@ -4,12 +4,12 @@ use Rattle.atomic_table.specs.Seated.{TableId}
 use mathlib.Core.Option.{some, some-injective, some-ne-none}
 use lib.ListN.{get_elem?}
 use Rattle.atomic_table.specs.Table.{rest}
-use Rattle.amo_givens.specs.Givens.{IsWorker}
+use Rattle.amo_params.specs.Givens.{IsWorker}
 use Rattle.amo_kk.specs.Record.{can_leave}
 use Rattle.amo_kk.specs.Step.{want, MayLoad}
 use Rattle.amo_kk.specs.Words.{claim_word, done_word, word_count}
 use Rattle.amo_kk.specs.Machine.{LocalView}
-use Rattle.amo_givens.specs.declared.givens.Givens.{Givens}
+use Rattle.amo_params.specs.declared.givens.Givens.{Givens}
 use Rattle.amo_kk.specs.Fits.{WantFits}
 use Rattle.amo_kk.proofs.Wants.{want_fits}
 use Rattle.amo_kk.proofs.Fit.{after_fit, left_fit}

@@ -6,20 +6,20 @@ use Rattle.amo_sets.specs.Lists.{numbered, put}
 use Rattle.amo_sets.specs.Sets.{has, AreDistinct}
 use Rattle.amo_sets.proofs.Numbers.{has-append, has_push}
 use Rattle.amo_kk.specs.Alone.{is_claiming}
-use Rattle.amo_givens.specs.Givens.{IsJob, IsWorker, is_within}
+use Rattle.amo_params.specs.Givens.{IsJob, IsWorker, is_within}
 use Rattle.amo_kk.specs.Record.{can_leave}
 use Rattle.amo_kk.specs.Step.{want, record_after, record_after_leave}
 use Rattle.amo_kk.specs.Lawful.{IsLawful, FitsPhase}
-use Rattle.amo_givens.specs.Moves.{worker_of, is_halt, are_in_range, has_halt}
+use Rattle.amo_params.specs.Moves.{worker_of, is_halt, are_in_range, has_halt}
 use Rattle.amo_kk.specs.World.{nobody, process, loaded_value, process_after, world_after_turn, world_after_leave, world_of}
-use Rattle.amo_givens.specs.declared.givens.Givens.{Givens}
+use Rattle.amo_params.specs.declared.givens.Givens.{Givens}
 use Rattle.amo_kk.specs.declared.phase.Phase.TheVariants.{Claiming}
 use Rattle.amo_kk.specs.declared.phase.Want.TheVariants.{StoreNext}
 use Rattle.amo_kk.specs.declared.model.Record.{Record}
 use Rattle.amo_kk.specs.declared.model.Process.{Process}
 use Rattle.amo_kk.specs.declared.model.World.{World}
-use Rattle.amo_givens.specs.declared.moves.Move.{Move}
-use Rattle.amo_givens.specs.declared.moves.Move.TheVariants.{Turn}
+use Rattle.amo_params.specs.declared.moves.Move.{Move}
+use Rattle.amo_params.specs.declared.moves.Move.TheVariants.{Turn}
 use Rattle.amo_kk.proofs.Growth.{claims_stay, claims_grow}
 use Rattle.amo_kk.proofs.Moves.{move_other, turned_processes, turned_local, left_processes}
 use Rattle.amo_kk.proofs.Runs.{stored_local, distinct_last}

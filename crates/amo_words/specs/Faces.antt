@@ -3,13 +3,13 @@
 use Rattle.std.specs.Prelude.{◌≡◌, ℕ, List, [], length, Option}
 use Rattle.amo_sets.specs.Lists.{numbered}
 use Rattle.atomic_table.specs.Seated.{TableId}
-use Rattle.amo_givens.specs.Givens.{IsWorker}
+use Rattle.amo_params.specs.Givens.{IsWorker}
 use Rattle.amo_kk.specs.World.{nobody}
 use Rattle.amo_kk.specs.Words.{words_of, word_count}
 use Rattle.amo_kk.specs.Lawful.{IsSoundRecord, IsSoundProcess}
 use Rattle.amo_kk.specs.declared.model.Process.{Process}
 use Rattle.amo_kk.specs.Machine.{LocalView}
-use Rattle.amo_givens.specs.declared.givens.Givens.{Givens}
+use Rattle.amo_params.specs.declared.givens.Givens.{Givens}
 use Rattle.amo_words.specs.declared.rule.Role.{Role}
 use Rattle.amo_words.specs.declared.rule.Role.TheVariants.{Keeping, Working}
 use Rattle.amo_words.specs.declared.rule.Spot.{Spot}

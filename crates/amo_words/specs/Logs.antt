@@ -3,11 +3,11 @@
 use Rattle.std.specs.Prelude.{◌≡◌, ℕ, ◌+◌, ◌*◌, Bool, true, false, ◌||◌, ◌==◌, List, [], ◌∷◌, ◌++◌, count_by}
 use Rattle.amo_sets.specs.Sets.{has}
 use Rattle.amo_kk.specs.Choice.{first_record}
-use Rattle.amo_givens.specs.Moves.{worker_of, are_in_range, has_halt}
+use Rattle.amo_params.specs.Moves.{worker_of, are_in_range, has_halt}
 use Rattle.amo_kk.specs.World.{process, world_of}
 use Rattle.amo_kk.specs.Machine.{LocalView}
-use Rattle.amo_givens.specs.declared.givens.Givens.{Givens}
-use Rattle.amo_givens.specs.declared.moves.Move.{Move}
+use Rattle.amo_params.specs.declared.givens.Givens.{Givens}
+use Rattle.amo_params.specs.declared.moves.Move.{Move}
 use Rattle.amo_kk.specs.declared.model.Process.{Process}
 use Rattle.amo_kk.specs.declared.model.World.{World}
 

@@ -8,9 +8,9 @@ use Rattle.atomic_table.specs.Table.{Step, Me, rest}
 use Rattle.amo_kk.specs.Step.{want, record_after, record_after_leave, MayLoad}
 use Rattle.amo_kk.specs.World.{loaded_value, world_of}
 use Rattle.amo_kk.specs.Machine.{LocalView}
-use Rattle.amo_givens.specs.declared.givens.Givens.{Givens}
-use Rattle.amo_givens.specs.declared.moves.Move.{Move}
-use Rattle.amo_givens.specs.declared.moves.Move.TheVariants.{Turn, Leave}
+use Rattle.amo_params.specs.declared.givens.Givens.{Givens}
+use Rattle.amo_params.specs.declared.moves.Move.{Move}
+use Rattle.amo_params.specs.declared.moves.Move.TheVariants.{Turn, Leave}
 use Rattle.amo_kk.specs.declared.phase.Phase.{Phase}
 use Rattle.amo_kk.specs.declared.phase.Phase.TheVariants.{Claiming}
 use Rattle.amo_words.specs.declared.rule.Role.{Role}

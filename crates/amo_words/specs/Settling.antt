@@ -10,11 +10,11 @@ use Rattle.atomic_table.specs.declared.owned.Closed.{Closed}
 use Rattle.atomic_table.specs.Table.{Final, Seen}
 use Rattle.amo_sets.specs.Lists.{numbered, table}
 use Rattle.amo_sets.specs.Sets.{has}
-use Rattle.amo_givens.specs.Givens.{bound}
+use Rattle.amo_params.specs.Givens.{bound}
 use Rattle.amo_kk.specs.Record.{is_over}
 use Rattle.amo_kk.specs.Words.{words_of, next_word, claim_word, done_word, word_count}
-use Rattle.amo_givens.specs.declared.givens.Givens.{Givens}
-use Rattle.amo_givens.specs.declared.moves.Move.{Move}
+use Rattle.amo_params.specs.declared.givens.Givens.{Givens}
+use Rattle.amo_params.specs.declared.moves.Move.{Move}
 use Rattle.amo_kk.specs.declared.model.Process.{Process}
 use Rattle.amo_words.specs.declared.rule.Spot.{Spot}
 use Rattle.amo_words.specs.declared.rule.Spot.TheVariants.{Home, Out, Back}

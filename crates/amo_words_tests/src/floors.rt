@@ -3,7 +3,7 @@
 //! `tests/amo_algorithm_tests` has a link to this file, so that both crates use it.
 ghost use Rattle.std.specs.Prelude.{◌≡◌};
 
-use amo_givens::Givens;
+use amo_params::Givens;
 use amo_words::{Book, ClosedFloor, Filed, Floor, Place, Settlement, Step, Worker, WorkerEnd};
 use std::alloc::{AllocError, Global};
 use std::process::Abort;

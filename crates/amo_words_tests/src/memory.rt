@@ -2,8 +2,8 @@
 ghost use Rattle.std.specs.Prelude.{◌≡◌, IfSome};
 
 use super::floors::{Expected, hire, letters, look, open, perform, run, words_of};
-use amo_givens::Givens;
 use amo_kk::Leaving;
+use amo_params::Givens;
 use amo_words::{Book, ClosedFloor, Floor, HireFault, OpenFault, Worker, WorkerEnd};
 use std::alloc::Global;
 use std::process::Abort;

@@ -2,7 +2,7 @@
 ghost use Rattle.std.specs.Prelude.{◌≡◌};
 
 use super::floors::{hire, numbers, open, run, settle};
-use amo_givens::Givens;
+use amo_params::Givens;
 use amo_words::{Book, Floor, Settlement, WorkerEnd};
 use std::alloc::Global;
 use std::process::Abort;

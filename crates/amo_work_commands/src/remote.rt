@@ -3,10 +3,10 @@
 ghost use Rattle.std.specs.Prelude.{◌≡◌};
 
 use amo_driver::{Failed, LifeEnd, Stop, Try, work};
-use amo_givens::Givens;
 use amo_host_parts::{Runner, shown};
-use amo_protocol::{Lines, Wire, text_of};
+use amo_params::Givens;
 use amo_run_faults::Fault;
+use amo_runner_protocol::{Lines, Wire, text_of};
 use amo_worker_args::ByLines;
 use std::rt::HostRuntime;
 

@@ -1,6 +1,6 @@
 //! The whole program: its commands, its messages, and the statuses with which it ends.
-use amo_admission::{enter, look_at_folder, look_to_read, look_to_write, open};
 use amo_call_log::{End, VARIABLE};
+use amo_dir_admission_files::{enter, look_at_folder, look_to_read, look_to_write, open};
 use amo_operator::Command;
 use amo_operator_commands::{carry_out, said_by, said_in};
 use amo_run_dir::Age;

@@ -4,7 +4,7 @@ use Rattle.std.specs.Prelude.{◌≡◌, ℕ, Bool, ◌&&◌, nat_le, false, Lis
 use Rattle.std.specs.Str.{bytes_eq}
 use Rattle.clap.specs.Words.{Row, Text, first_of}
 use Rattle.amo_decimal.specs.Numbers.{number_in}
-use Rattle.amo_givens.specs.declared.limits.TheConstants.{MAX_BETA, MAX_JOBS, MAX_WORKERS}
+use Rattle.amo_params.specs.declared.limits.TheConstants.{MAX_BETA, MAX_JOBS, MAX_WORKERS}
 use Rattle.amo_operator.specs.declared.model.Form.{Form}
 use Rattle.amo_operator.specs.declared.model.Form.TheVariants.{Text as AsText, Json, Lines}
 use Rattle.amo_run_faults.specs.Id.{is_id}

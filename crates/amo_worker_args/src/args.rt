@@ -7,8 +7,8 @@ ghost use Rattle.amo_worker_args.specs.Requests.{IsAskedFor, answer_by, answer_o
 use crate::by_lines::ByLines;
 use crate::command_line::{BOOT, program};
 use amo_decimal::number;
-use amo_givens::{MAX_BETA, MAX_JOBS, MAX_WORKERS};
 use amo_operator::Form;
+use amo_params::{MAX_BETA, MAX_JOBS, MAX_WORKERS};
 use amo_run_faults::{ListSettings, Setting, is_id};
 use amo_status::State;
 use clap::error::ErrorKind;

@@ -1,6 +1,6 @@
 -- A worker that asks whether a line is clear: each log that it reads on leads it on.
 use Rattle.std.proofs.Common.{◌≡◌, inl, ⊎_elim, ℕ, suc, ◌+◌, ◌-◌, ◌<◌, true, false, List, [], ◌∷◌, Option, Some, None, refl, sym, ap, subst, ◌∙◌, arith}
-use Rattle.amo_givens.specs.declared.limits.TheConstants.{MAX_WORKERS}
+use Rattle.amo_params.specs.declared.limits.TheConstants.{MAX_WORKERS}
 use Rattle.amo_process.specs.Stepped.{ProcessView}
 use Rattle.amo_process.specs.Stepped.{access_of}
 use Rattle.amo_process.specs.declared.access.Access.{Access}

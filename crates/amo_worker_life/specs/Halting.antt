@@ -1,8 +1,8 @@
 -- Why a worker goes no further, before it works in a round.
 use Rattle.std.specs.Prelude.{◌≡◌, ◌≢◌, ◌⊎◌, ℕ, ◌≤◌, List, Option, Some, None, Ok}
-use Rattle.amo_givens.specs.declared.givens.Givens.{Givens}
-use Rattle.amo_givens.specs.declared.limits.TheConstants.{MAX_JOBS, MAX_WORKERS}
-use Rattle.amo_givens.specs.Givens.{givens_of}
+use Rattle.amo_params.specs.declared.givens.Givens.{Givens}
+use Rattle.amo_params.specs.declared.limits.TheConstants.{MAX_JOBS, MAX_WORKERS}
+use Rattle.amo_params.specs.Givens.{givens_of}
 use Rattle.amo_host.specs.declared.model.RunLock.TheVariants.{Guard, Round}
 use Rattle.amo_host.specs.Calls.{ReadLog, LogIs, Fell}
 use Rattle.amo_host.specs.Logs.{Logs, logs_after}

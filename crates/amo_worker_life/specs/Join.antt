@@ -1,7 +1,7 @@
 -- How a worker joins a round, or takes no part in it.
 use Rattle.std.specs.Prelude.{ℕ, ◌==◌, ◌&&◌, ◌||◌, nat_le, if◌then◌else◌, Bool, false, Option, Some, None, is_none}
-use Rattle.amo_givens.specs.declared.limits.TheConstants.{MAX_WORKERS}
-use Rattle.amo_givens.specs.Givens.{IsWorker}
+use Rattle.amo_params.specs.declared.limits.TheConstants.{MAX_WORKERS}
+use Rattle.amo_params.specs.Givens.{IsWorker}
 use Rattle.amo_driver.specs.Course.{first_stage}
 use Rattle.amo_host.specs.Logs.{Logs}
 use Rattle.amo_host.specs.Phase.{Identity, Phase, Works, Over}

@@ -12,7 +12,7 @@ use Rattle.amo_host.specs.Logs.{Logs}
 use Rattle.amo_host.specs.declared.model.LogFile.{LogFile}
 use Rattle.amo_host.specs.Phase.{Identity, Phase, Asks, Ended, Idle, Works}
 use Rattle.amo_host.specs.Protocol.{Lives}
-use Rattle.amo_protocol.specs.Replies.{way_in}
+use Rattle.amo_runner_protocol.specs.Replies.{way_in}
 use Rattle.amo_worker_life.specs.declared.halt.Halt.{Halt}
 use Rattle.amo_worker_life.specs.declared.halt.Halt.TheVariants as H
 use Rattle.amo_worker_life.specs.declared.halt.Health.{Health}

@@ -1,7 +1,7 @@
 //! How a worker begins a round: under the lock of the round, which it has alone, it reads all that
 //! there is, and makes the files of a round of the open lines.
 ghost use Rattle.std.specs.Prelude.{◌≡◌, ◌≤◌, ◌∷◌, nat_lt, length, take, option_map, Ok, IfErr, IfOk, OnErr, OnOk};
-ghost use Rattle.amo_givens.specs.declared.limits.TheConstants.{MAX_JOBS, MAX_WORKERS, MAX_BETA};
+ghost use Rattle.amo_params.specs.declared.limits.TheConstants.{MAX_JOBS, MAX_WORKERS, MAX_BETA};
 ghost use Rattle.amo_run_files.specs.Lines.{lines_in, BeginsWith};
 ghost use Rattle.amo_run_files.specs.Refusals.{IsTaken};
 ghost use Rattle.amo_run_files.specs.Rounds.{givens_of};
@@ -23,8 +23,8 @@ use crate::halt::Halt;
 use crate::reading::logs_before;
 use crate::worker::Worker;
 use amo_driver::Failed;
-use amo_givens::{MAX_JOBS, MAX_WORKERS};
 use amo_host::{Hold, Host, RunLock};
+use amo_params::{MAX_JOBS, MAX_WORKERS};
 use amo_run_files::{
     Extent, HashedJobs, JobsFault, RoundFile, RoundHeader, first_difference, givens_of, head_of,
     words_len,

@@ -2,8 +2,8 @@
 //! file, opens its registers, and reads the answers and all journals. If it takes no part in the
 //! round, it unlocks it once it has read that file.
 ghost use Rattle.std.specs.Prelude.{◌≡◌, ◌≤◌, true, [], map, option_map, Some, IfErr, IfOk, OnOk, OnErr};
-ghost use Rattle.amo_givens.specs.declared.limits.TheConstants.{MAX_JOBS, MAX_WORKERS};
-ghost use Rattle.amo_givens.specs.Givens.{givens_of, IsWorker};
+ghost use Rattle.amo_params.specs.declared.limits.TheConstants.{MAX_JOBS, MAX_WORKERS};
+ghost use Rattle.amo_params.specs.Givens.{givens_of, IsWorker};
 ghost use Rattle.amo_run_files.specs.Heads.{head_of};
 ghost use Rattle.amo_run_files.specs.Records.{said_by};
 ghost use Rattle.amo_run_files.specs.Rounds.{seat_of};
@@ -23,8 +23,8 @@ use crate::reading::logs_before;
 use crate::start::TRIES;
 use crate::worker::Worker;
 use amo_driver::Failed;
-use amo_givens::{Givens, MAX_WORKERS};
 use amo_host::{Hold, Host, Registers, RunLock};
+use amo_params::{Givens, MAX_WORKERS};
 use amo_run_files::{RoundFile, RoundHeader, head_of, seat_of, words_len};
 use amo_run_log::{Attempt, ReadLogs};
 

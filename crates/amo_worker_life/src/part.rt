@@ -1,6 +1,6 @@
 //! A worker's part of a round, and what comes before it.
 ghost use Rattle.std.specs.Prelude.{◌≡◌, ℕ, List, Option, Some, true, false, option_map, Err, Ok, IfErr, IfOk, OnErr, OnOk};
-ghost use Rattle.amo_givens.specs.Givens.{IsWorker};
+ghost use Rattle.amo_params.specs.Givens.{IsWorker};
 ghost use Rattle.amo_driver.specs.Course.{first_stage};
 ghost use Rattle.amo_driver.specs.Stage.{Asking};
 ghost use Rattle.amo_driver.specs.declared.past.Asked.TheVariants.{All};
@@ -9,7 +9,7 @@ ghost use Rattle.amo_driver.specs.Stops.{AsksTo, EndsAt, HaltsAt};
 ghost use Rattle.amo_host.specs.Calls.{Fell, Heard, Say};
 ghost use Rattle.amo_host.specs.Phase.{Asks, Works, Over};
 ghost use Rattle.amo_host.specs.Protocol.{Lives, MayCall, Moves};
-ghost use Rattle.amo_protocol.specs.Sayings.{over_text};
+ghost use Rattle.amo_runner_protocol.specs.Sayings.{over_text};
 ghost use Rattle.amo_worker_life.specs.Halting.{Halts};
 ghost use Rattle.amo_worker_life.specs.declared.halt.Halt.TheVariants.{Host as HostFailed};
 ghost use Rattle.amo_worker_life.specs.Where.{ends_the_work, idle_at, me_of, over_reply, AsksAt, HasFailed, HasFailedAsking, HasPaid, IsAt, IsOver};
@@ -21,9 +21,9 @@ use crate::halt::{Halt, Health};
 use crate::round::InRound;
 use crate::worker::Worker;
 use amo_driver::{Asked, Failed, Intent, LifeEnd, Stop, Way, ask_pending, work};
-use amo_givens::Givens;
 use amo_host::{Host, RunLock};
-use amo_protocol::{over_reply_in, over_text};
+use amo_params::Givens;
+use amo_runner_protocol::{over_reply_in, over_text};
 
 /// Asks the runner what became of each of these attempts, which the worker's journal has pending,
 /// and records each outcome before it asks for the next.

@@ -11,10 +11,10 @@ use crate::halt::{Halt, Health};
 use crate::outcome::outcome_entry;
 use crate::worker::Worker;
 use amo_driver::{Failed, JobResult, Outside, Reply};
-use amo_givens::MAX_WORKERS;
 use amo_host::{Host, LogFile};
-use amo_protocol::perform_text;
+use amo_params::MAX_WORKERS;
 use amo_run_log::{AttemptId, Entry, ReadLogs};
+use amo_runner_protocol::perform_text;
 use std::alloc::AllocError;
 
 /// A worker in a round.

@@ -4,7 +4,7 @@ ghost use Rattle.amo_driver.specs.Standing.{MayCall as MayTry};
 ghost use Rattle.amo_driver.specs.declared.model.Try.TheVariants.{Ask, Note};
 ghost use Rattle.amo_host.specs.Calls.{Say, Heard, Fell};
 ghost use Rattle.amo_host.specs.Protocol.{Lives, MayCall, Moves};
-ghost use Rattle.amo_protocol.specs.Lines.{reply_heard};
+ghost use Rattle.amo_runner_protocol.specs.Lines.{reply_heard};
 ghost use Rattle.amo_worker_life.specs.Where.{me_of, AsksAt, dismisses, leaves_running};
 ghost use Rattle.amo_worker_life.specs.declared.halt.Health.TheVariants.{Fine, Broken, Lost};
 
@@ -12,9 +12,9 @@ use crate::halt::{Halt, Health};
 use crate::outcome::outcome_entry;
 use amo_driver::{Failed, JobResult, Past, Reply, Way};
 use amo_host::Host;
-use amo_protocol::{reply_in, was_text};
 use amo_run_files::HashedJobs;
 use amo_run_log::ReadLogs;
+use amo_runner_protocol::{reply_in, was_text};
 use std::alloc::Global;
 
 /// A worker's process. After a call has failed, `halt` says why.

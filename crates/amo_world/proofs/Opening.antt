@@ -7,7 +7,7 @@ use Rattle.amo_sets.specs.Lists.{table}
 use Rattle.amo_sets.proofs.Tables.{table_next}
 use Rattle.amo_kk.specs.World.{first_process, opening_world}
 use Rattle.amo_kk.specs.Lawful.{IsLawful, HasRun}
-use Rattle.amo_givens.specs.declared.givens.Givens.{Givens}
+use Rattle.amo_params.specs.declared.givens.Givens.{Givens}
 use Rattle.amo_kk.specs.declared.event.Event.{Event}
 use Rattle.amo_kk.specs.declared.model.World.{World}
 use Rattle.amo_kk.proofs.Worlds.{opening_lawful}

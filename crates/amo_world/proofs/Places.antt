@@ -3,9 +3,9 @@ use Rattle.std.proofs.Common.{◌≡◌, ℕ, zero, suc, ◌+◌, ◌-◌, ◌�
 use Rattle.std.proofs.lemmas.List.{get_or-map, get_or_default}
 use Rattle.amo_sets.specs.Lists.{numbered}
 use Rattle.amo_kk.specs.Fits.{WantFits}
-use Rattle.amo_givens.specs.Givens.{IsOther}
+use Rattle.amo_params.specs.Givens.{IsOther}
 use Rattle.amo_kk.specs.World.{nobody, process, loaded_value}
-use Rattle.amo_givens.specs.declared.givens.Givens.{Givens}
+use Rattle.amo_params.specs.declared.givens.Givens.{Givens}
 use Rattle.amo_kk.specs.declared.model.Process.{Process}
 use Rattle.amo_kk.specs.declared.model.World.{World}
 use Rattle.amo_kk.specs.declared.phase.Want.{Want}

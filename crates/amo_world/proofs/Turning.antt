@@ -6,14 +6,14 @@ use Rattle.std.proofs.lemmas.Bool.{true≢false, cases_Bool, cases_eq}
 use Rattle.std.proofs.lemmas.List.{map-set, length-set, get_or-set_same, get_or-set_other}
 use Rattle.std.specs.Vec.{vec_capacity}
 use Rattle.amo_sets.specs.Lists.{put}
-use Rattle.amo_givens.specs.Givens.{IsWorker}
+use Rattle.amo_params.specs.Givens.{IsWorker}
 use Rattle.amo_kk.specs.Record.{wants_nothing, can_leave}
 use Rattle.amo_kk.specs.Step.{want, is_load, record_after, record_after_leave, shown, events_of, MayLoad}
 use Rattle.amo_kk.specs.Lawful.{IsLawful, HasRun, IsSoundProcess}
 use Rattle.amo_kk.specs.World.{process, loaded_value, process_after, world_with, world_after_step, world_after_turn, world_after_halt, world_after_leave}
 use Rattle.amo_kk.specs.Machine.{LocalView}
 use Rattle.amo_kk.specs.Answer.{turn_shown}
-use Rattle.amo_givens.specs.declared.givens.Givens.{Givens}
+use Rattle.amo_params.specs.declared.givens.Givens.{Givens}
 use Rattle.amo_kk.specs.declared.phase.Want.TheVariants.{StoreNext}
 use Rattle.amo_kk.specs.declared.model.Record.{Record}
 use Rattle.amo_kk.specs.declared.model.Process.{Process}

@@ -8,7 +8,7 @@ use Rattle.amo_sets.specs.Lists.{numbered, put, table}
 use Rattle.amo_sets.specs.Sets.{has, without_number, members, set_of_bits}
 use Rattle.amo_sets.proofs.Numbers.{numbered-put_same, numbered-put_other, length-put}
 use Rattle.amo_sets.proofs.Sets.{members_agree}
-use Rattle.amo_givens.specs.Givens.{is_within}
+use Rattle.amo_params.specs.Givens.{is_within}
 use Rattle.amo_kk.specs.Object.{is_step, is_here, has_in_hand}
 use Rattle.amo_kk.specs.declared.event.Event.TheVariants.{Claimed}
 use Rattle.amo_kk.proofs.Claims.{claim_parts}

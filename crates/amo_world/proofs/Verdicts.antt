@@ -7,7 +7,7 @@ use Rattle.std.proofs.lemmas.List.{length-take-le}
 use Rattle.std.proofs.Math.Seq.{take-suc, drop-cons}
 use Rattle.amo_kk.specs.Object.{first_object, is_step, object_after}
 use Rattle.amo_kk.specs.Run.{object_after_all, IsRun, first_bad, IsFirstBad}
-use Rattle.amo_givens.specs.declared.givens.Givens.{Givens}
+use Rattle.amo_params.specs.declared.givens.Givens.{Givens}
 use Rattle.amo_kk.specs.declared.model.Object.{Object}
 use Rattle.amo_kk.specs.declared.event.Event.{Event}
 use Rattle.amo_kk.proofs.Claims.{run_first_bad, first_bad_is}

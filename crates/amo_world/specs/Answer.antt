@@ -4,7 +4,7 @@ use Rattle.amo_kk.specs.Object.{first_object}
 use Rattle.amo_kk.specs.Run.{first_bad}
 use Rattle.amo_kk.specs.World.{process}
 use Rattle.amo_kk.specs.Answer.{turn_shown}
-use Rattle.amo_givens.specs.declared.givens.Givens.{Givens}
+use Rattle.amo_params.specs.declared.givens.Givens.{Givens}
 use Rattle.amo_kk.specs.declared.phase.Phase.{Phase}
 use Rattle.amo_kk.specs.declared.phase.Phase.TheVariants.{Claiming}
 use Rattle.amo_kk.specs.declared.event.Event.{Event}

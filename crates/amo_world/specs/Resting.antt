@@ -1,9 +1,9 @@
 -- How a worker that runs alone comes to rest.
 use Rattle.std.specs.Prelude.{◌≡◌, ℕ, suc, ◌<◌}
 use Rattle.amo_kk.specs.World.{process}
-use Rattle.amo_givens.specs.Givens.{lone_bound}
+use Rattle.amo_params.specs.Givens.{lone_bound}
 use Rattle.amo_kk.specs.Alone.{world_after_turns, IsFirstToClaimOrEnd, FitsThreeAttempts}
-use Rattle.amo_givens.specs.declared.givens.Givens.{Givens}
+use Rattle.amo_params.specs.declared.givens.Givens.{Givens}
 use Rattle.amo_kk.specs.declared.model.World.{World}
 use Rattle.amo_world.specs.declared.answer.Alone.{Alone}
 use Rattle.amo_world.specs.Answer.{alone_answer}

@@ -1,7 +1,7 @@
 -- How contracts see a world; within this crate, `StateView` and `AreSized`, how they see a state of
 -- the judge.
 use Rattle.std.specs.Prelude.{◌≡◌, ℕ}
-use Rattle.amo_givens.specs.declared.givens.Givens.{Givens}
+use Rattle.amo_params.specs.declared.givens.Givens.{Givens}
 use Rattle.amo_kk.specs.declared.model.Object.{Object}
 use Rattle.amo_kk.specs.declared.model.World.{World}
 

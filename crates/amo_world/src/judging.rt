@@ -6,8 +6,8 @@ ghost use Rattle.amo_world.specs.Answer.{verdict};
 
 use crate::answer::Verdict;
 use crate::state::State;
-use amo_givens::Givens;
 use amo_kk::Event;
+use amo_params::Givens;
 use std::alloc::{AllocError, Global};
 
 /// Returns the verdict on a history of any system: `Lawful` if the events are a run of the
@@ -22,7 +22,7 @@ use std::alloc::{AllocError, Global};
 /// # Examples
 ///
 /// ```
-/// use amo_givens::Givens;
+/// use amo_params::Givens;
 /// use amo_world::{Event, Verdict, judge};
 ///
 /// let givens = Givens::try_new(2, 2, 2)?;

@@ -2,14 +2,14 @@
 ghost use Rattle.std.specs.Prelude.{◌≡◌, ◌≤◌, ◌<◌, ◌+◌, length, true, false, ℕ, IfOk};
 ghost use Rattle.std.specs.Vec.{vec_capacity};
 ghost use Rattle.amo_kk.specs.declared.phase.Want.{Want};
-ghost use Rattle.amo_givens.specs.Givens.{IsWorker};
+ghost use Rattle.amo_params.specs.Givens.{IsWorker};
 ghost use Rattle.amo_kk.specs.Record.{wants_nothing, can_leave};
 ghost use Rattle.amo_kk.specs.Step.{want, is_load, record_after_leave, shown, MayLoad};
 ghost use Rattle.amo_kk.specs.World.{process_after, first_process};
 ghost use Rattle.amo_world.specs.Processes.{process_of, process_after_step, IsSameWorker};
 
-use amo_givens::Givens;
 use amo_kk::{Local, Shown, Want};
+use amo_params::Givens;
 use amo_sets::filled;
 use std::alloc::{AllocError, Global};
 

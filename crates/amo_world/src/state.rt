@@ -1,12 +1,12 @@
 //! A state of the sequential object, for the judge.
 ghost use Rattle.std.specs.Prelude.{◌≡◌, true, IfOk, OnOk};
 ghost use Rattle.amo_sets.specs.Sets.{has};
-ghost use Rattle.amo_givens.specs.Givens.{IsJob, is_within};
+ghost use Rattle.amo_params.specs.Givens.{IsJob, is_within};
 ghost use Rattle.amo_kk.specs.Object.{first_object, is_step, object_after, is_here};
 ghost use Rattle.amo_world.specs.Views.{StateView};
 
-use amo_givens::Givens;
 use amo_kk::Event;
+use amo_params::Givens;
 use std::alloc::{AllocError, Global};
 use std::marker::Model;
 

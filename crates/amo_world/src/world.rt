@@ -3,10 +3,10 @@ ghost use Rattle.std.specs.Prelude.{◌≡◌, ◌≤◌, ◌<◌, ◌+◌, ◌*
 ghost use Rattle.std.specs.Vec.{vec_capacity};
 ghost use Rattle.amo_sets.specs.Lists.{table};
 ghost use Rattle.amo_sets.specs.Sets.{has, AreDistinct};
-ghost use Rattle.amo_givens.specs.Givens.{bound, IsJob, IsWorker};
+ghost use Rattle.amo_params.specs.Givens.{bound, IsJob, IsWorker};
 ghost use Rattle.amo_kk.specs.Object.{first_object};
 ghost use Rattle.amo_kk.specs.Run.{IsRun, claimed_jobs, done_jobs, has_claimed};
-ghost use Rattle.amo_givens.specs.Moves.{worker_of, are_in_range};
+ghost use Rattle.amo_params.specs.Moves.{worker_of, are_in_range};
 ghost use Rattle.amo_kk.specs.World.{process, loaded_value, first_process, opening_world, world_after_turn, world_after_halt, world_after_leave, world_after_move, world_after_moves};
 ghost use Rattle.amo_kk.specs.Fits.{WantFits};
 ghost use Rattle.amo_kk.specs.Step.{want, events_of};
@@ -21,8 +21,8 @@ ghost use Rattle.amo_world.specs.Processes.{process_of, world_of_processes, AreI
 use crate::answer::{Alone, Turned};
 use crate::process::SimProcess;
 use crate::tally::{count, has_claim};
-use amo_givens::{Givens, Move};
 use amo_kk::{Event, Leaving, Local, Shown, Want};
+use amo_params::{Givens, Move};
 use std::alloc::{AllocError, Global};
 use std::marker::Model;
 
@@ -32,7 +32,7 @@ use std::marker::Model;
 /// # Examples
 ///
 /// ```
-/// use amo_givens::{Givens, Move};
+/// use amo_params::{Givens, Move};
 /// use amo_world::{Alone, Event, Turned, World};
 ///
 /// let givens = Givens::try_new(5, 2, 2)?;
@@ -140,7 +140,7 @@ impl World {
     /// # Examples
     ///
     /// ```
-    /// use amo_givens::Givens;
+    /// use amo_params::Givens;
     /// use amo_kk::Leaving;
     /// use amo_world::World;
     ///

@@ -4,10 +4,10 @@ use Rattle.std.specs.Prelude.{if◌then◌else◌, nat_lt, ◌==◌}
 use Rattle.std.proofs.lemmas.Bool.{ltb-false, le-ltb}
 use Rattle.std.proofs.lemmas.Bool.Decides.{nat_tests}
 use Rattle.std.proofs.lemmas.List.{length-replicate}
-use Rattle.amo_givens.specs.Givens.{bound}
-use Rattle.amo_givens.specs.declared.givens.Givens.{Givens}
-use Rattle.amo_givens.specs.declared.limits.TheConstants.{MAX_JOBS, MAX_WORKERS}
-use Rattle.amo_givens.specs.declared.moves.Move.TheVariants.{Turn, Halt}
+use Rattle.amo_params.specs.Givens.{bound}
+use Rattle.amo_params.specs.declared.givens.Givens.{Givens}
+use Rattle.amo_params.specs.declared.limits.TheConstants.{MAX_JOBS, MAX_WORKERS}
+use Rattle.amo_params.specs.declared.moves.Move.TheVariants.{Turn, Halt}
 use Rattle.amo_bounds.specs.Fewest.{fewest}
 use Rattle.amo_bounds.specs.Worst.{stuck_moves, lone_turns, worst_moves}
 

@@ -7,10 +7,10 @@ use Rattle.std.specs.Str.{IsUtf8}
 use Rattle.std.proofs.lemmas.Bool.{cases_Bool, le-leb}
 use Rattle.std.proofs.lemmas.Bool.Decides.{nat_tests}
 use Rattle.toml.specs.Data.{integer, Members, member, as_table}
-use Rattle.amo_givens.specs.Givens.{givens_of, numbers_or_fault}
-use Rattle.amo_givens.specs.Limits.{first_fault}
-use Rattle.amo_givens.specs.declared.givens.Givens.{Givens}
-use Rattle.amo_givens.specs.declared.givens.GivensFault.{GivensFault}
+use Rattle.amo_params.specs.Givens.{givens_of, numbers_or_fault}
+use Rattle.amo_params.specs.Limits.{first_fault}
+use Rattle.amo_params.specs.declared.givens.Givens.{Givens}
+use Rattle.amo_params.specs.declared.givens.GivensFault.{GivensFault}
 use Rattle.amo_plan.specs.declared.limits.TheConstants.{MOST_BYTES, MOST_MOVES, USUAL_BUDGET, MOST_IN_BLOCK}
 use Rattle.amo_plan.specs.declared.task.Task.{Task}
 use Rattle.amo_plan.specs.declared.task.Task.TheVariants.{Say, Add}

@@ -9,10 +9,10 @@ use Rattle.std.proofs.lemmas.Fmt.{decimal_by_steps, decimal_nonempty}
 use Rattle.std.proofs.lemmas.List.Elements.{All-append}
 use Rattle.std.proofs.lemmas.List.Splits.{slice_split_none, slice_split_at}
 use Rattle.std.proofs.lemmas.List.Sums.{position_or_len_is}
-use Rattle.amo_givens.specs.declared.givens.Givens.{Givens}
-use Rattle.amo_givens.specs.declared.limits.TheConstants.{MAX_WORKERS}
-use Rattle.amo_givens.specs.declared.moves.Move.{Move}
-use Rattle.amo_givens.specs.declared.moves.Move.TheVariants.{Turn, Halt}
+use Rattle.amo_params.specs.declared.givens.Givens.{Givens}
+use Rattle.amo_params.specs.declared.limits.TheConstants.{MAX_WORKERS}
+use Rattle.amo_params.specs.declared.moves.Move.{Move}
+use Rattle.amo_params.specs.declared.moves.Move.TheVariants.{Turn, Halt}
 use Rattle.amo_plan.specs.declared.fault.PlanFault.{PlanFault}
 use Rattle.amo_plan.specs.declared.fault.PlanFault.TheVariants.{TooLong}
 use Rattle.amo_plan.specs.declared.limits.TheConstants.{HIGHEST_IN_WORD, MOST_MOVES}

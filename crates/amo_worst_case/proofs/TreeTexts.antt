@@ -13,7 +13,7 @@ use Rattle.toml.specs.Tables.{Definition, key_value, array_table, Expression}
 use Rattle.toml.specs.Parse.{parse_document}
 use Rattle.toml.specs.Text.{IsValueText, IsItemsText, IsLineText, IsLinesText, breaks_lines, are_tables, pairs, sections, elements, expressions}
 use Rattle.toml.proofs.ReadBack.{parse_document-printed}
-use Rattle.amo_givens.specs.declared.givens.Givens.{Givens}
+use Rattle.amo_params.specs.declared.givens.Givens.{Givens}
 use Rattle.amo_plan.specs.declared.task.Task.{Task}
 use Rattle.amo_plan.specs.declared.task.Task.TheVariants.{Say, Add}
 use Rattle.amo_plan.specs.Plan.{PlanSeen}

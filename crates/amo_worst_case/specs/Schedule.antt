@@ -1,7 +1,7 @@
 -- The schedule whose moves are the worst.
 use Rattle.std.specs.Prelude.{ℕ, zero, suc, ◌+◌, ◌-◌, List, [], ◌++◌, nat_lt, if◌then◌else◌, codes}
 use Rattle.std.specs.Fmt.{decimal}
-use Rattle.amo_givens.specs.declared.givens.Givens.{Givens}
+use Rattle.amo_params.specs.declared.givens.Givens.{Givens}
 use Rattle.amo_bounds.specs.Worst.{lone_turns}
 
 -- for each of the first k others of worker 1 a turn and a stop, as `2 x2 `

@@ -4,7 +4,7 @@ use Rattle.std.specs.Prelude.{ℕ, List, [], ◌∷◌, ◌++◌, ◌==◌, if�
 use Rattle.std.specs.Fmt.{decimal}
 use Rattle.std.specs.List.{flat_map}
 use Rattle.toml_writer.specs.Text.{string_text}
-use Rattle.amo_givens.specs.declared.givens.Givens.{Givens}
+use Rattle.amo_params.specs.declared.givens.Givens.{Givens}
 use Rattle.amo_plan.specs.declared.task.Task.{Task}
 use Rattle.amo_plan.specs.declared.task.Task.TheVariants.{Say, Add}
 use Rattle.amo_plan.specs.Plan.{PlanSeen}

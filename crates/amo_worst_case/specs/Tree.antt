@@ -2,7 +2,7 @@
 use Rattle.std.specs.Prelude.{ℕ, ◌^◌, pos, List, [], ◌∷◌, Bool, true, false, nat_lt, codes}
 use Rattle.std.specs.List.{list_all}
 use Rattle.toml.specs.Data.{string, integer, array, table, Items, no_items, item, Members, no_members, member}
-use Rattle.amo_givens.specs.declared.givens.Givens.{Givens}
+use Rattle.amo_params.specs.declared.givens.Givens.{Givens}
 use Rattle.amo_plan.specs.declared.task.Task.{Task}
 use Rattle.amo_plan.specs.declared.task.Task.TheVariants.{Say, Add}
 use Rattle.amo_plan.specs.Plan.{PlanSeen}

@@ -3,7 +3,7 @@ ghost use Rattle.std.specs.Prelude.{◌≡◌, length};
 ghost use Rattle.amo_bounds.specs.Fewest.{fewest};
 ghost use Rattle.amo_bounds.specs.Worst.{lone_turns, worst_moves};
 
-use amo_givens::Givens;
+use amo_params::Givens;
 
 /// Returns the fewest jobs that are done once a worker has ended. It is 0 if there are fewer jobs
 /// than the threshold, else the bound, but at least 1.

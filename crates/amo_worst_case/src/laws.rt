@@ -4,7 +4,7 @@ ghost use Rattle.std.specs.Prelude.{◌≡◌, ◌<◌, ◌≤◌, ◌^◌, ◌=
 ghost use Rattle.std.specs.List.{list_all};
 ghost use Rattle.std.specs.Str.{IsUtf8};
 ghost use Rattle.toml.specs.Parse.{parse_document};
-ghost use Rattle.amo_givens.specs.declared.givens.Givens.{Givens};
+ghost use Rattle.amo_params.specs.declared.givens.Givens.{Givens};
 ghost use Rattle.amo_plan.specs.Plan.{PlanSeen, plan_of};
 ghost use Rattle.amo_plan.specs.Schedule.{read_schedule};
 ghost use Rattle.amo_plan.specs.declared.limits.TheConstants.{MOST_MOVES};

@@ -3,7 +3,7 @@ ghost use Rattle.std.specs.Prelude.{◌≡◌, ◌++◌, ◌≤◌, OnOk, IfOk, 
 ghost use Rattle.amo_worst_case.specs.Schedule.{stuck_words, worst_schedule};
 
 use crate::counts::lone_turns;
-use amo_givens::Givens;
+use amo_params::Givens;
 use std::alloc::{AllocError, Global};
 
 /// Appends, for each of the first so many others of worker 1, a turn and a stop.

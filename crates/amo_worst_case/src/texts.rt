@@ -6,7 +6,7 @@ ghost use Rattle.amo_worst_case.specs.Text.{block_line, head_lines, plan_text};
 use crate::jobs::push_jobs;
 use crate::quoted::Quoted;
 use crate::schedule::worst_schedule;
-use amo_givens::Givens;
+use amo_params::Givens;
 use amo_plan::Plan;
 use std::alloc::{AllocError, Global};
 

@@ -1,8 +1,8 @@
 //! One worker's local machine, its next event, and looks at its state.
 //!
 //! `tests/amo_algorithm_tests` has a link to this file, so that both crates use it.
-use amo_givens::Givens;
 use amo_kk::{Local, Phase, Shown, Want};
+use amo_params::Givens;
 use std::alloc::Global;
 use std::process::Abort;
 use std::test::Fail;

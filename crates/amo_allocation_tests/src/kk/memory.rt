@@ -1,7 +1,7 @@
 //! A local machine, out of memory, and its calls that take none.
 use super::locals::{event, front, has_performed, is_at_its_end, machine, sight, stays};
-use amo_givens::Givens;
 use amo_kk::{Local, Shown, Want};
+use amo_params::Givens;
 use std::alloc::{AllocError, Global};
 use std::process::Abort;
 use std::test::Fail;

@@ -3,7 +3,7 @@ use super::worlds::{expect_world, halt, leave, opening, turn};
 use Event::Claimed;
 use Move::{Halt, Leave, Turn};
 use Verdict::FirstBad;
-use amo_givens::{Givens, Move};
+use amo_params::{Givens, Move};
 use amo_world::{Event, Verdict, World, judge};
 use std::alloc::{AllocError, Global};
 use std::process::Abort;

@@ -1,6 +1,6 @@
 //! Worlds of all sizes, and the judge on runs of all lengths.
 use super::worlds::{longest_run, opening};
-use amo_givens::Givens;
+use amo_params::Givens;
 use amo_world::{Verdict, judge};
 use std::test::Fail;
 

@@ -1,8 +1,8 @@
 //! The opening of a world, calls of one worker, the expected state of a world, and a longest run.
 //!
 //! `tests/amo_algorithm_tests` has a link to this file, so that both crates use it.
-use amo_givens::Givens;
 use amo_kk::Leaving;
+use amo_params::Givens;
 use amo_world::{Event, Turned, World};
 use std::alloc::{AllocError, Global};
 use std::process::Abort;

@@ -1,6 +1,6 @@
 //! The end of a run in which a worker could not be hired.
 ghost use Rattle.std.specs.Prelude.{◌≡◌, ◌≤◌, [], ℕ, List, All, length, vec_len, vec_capacity, map, replicate};
-ghost use Rattle.amo_givens.specs.declared.givens.Givens.{Givens};
+ghost use Rattle.amo_params.specs.declared.givens.Givens.{Givens};
 ghost use Rattle.amo_words.specs.Hiring.{HasCollected};
 ghost use Rattle.amo_claims.specs.Calls.{worker_in};
 ghost use Rattle.amo_mailbox.specs.declared.queue.Queue.{Queue};

@@ -1,7 +1,7 @@
 //! How workers are collected after their threads.
 ghost use Rattle.std.specs.Prelude.{ℕ, List, ◌≡◌, ◌+◌, ◌≤◌, ◌++◌, vec_len, All};
-ghost use Rattle.amo_givens.specs.declared.givens.Givens.{Givens};
-ghost use Rattle.amo_givens.specs.declared.limits.TheConstants.{MAX_WORKERS};
+ghost use Rattle.amo_params.specs.declared.givens.Givens.{Givens};
+ghost use Rattle.amo_params.specs.declared.limits.TheConstants.{MAX_WORKERS};
 ghost use Rattle.amo_mailbox.specs.declared.queue.Queue.{Queue};
 ghost use Rattle.amo_words.specs.Faces.{Seated, spots};
 ghost use Rattle.amo_crew.specs.Crew.{AreFinished};

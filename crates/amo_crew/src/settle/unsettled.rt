@@ -18,7 +18,7 @@ pub(crate) use settling::conclude;
 ///
 /// ```
 /// use amo_crew::{Outcome, StopPlan, Unsettled, Work, execute, ExecFault};
-/// use amo_givens::{Givens, MAX_STEPS};
+/// use amo_params::{Givens, MAX_STEPS};
 ///
 /// struct Sum;
 ///

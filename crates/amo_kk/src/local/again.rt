@@ -2,7 +2,7 @@
 ghost use Rattle.std.specs.Prelude.{◌≡◌, ◌≤◌, ◌<◌, ◌+◌, ◌++◌, ◌∷◌, ◌&&◌, [], true, false, not, IfOk, IfErr, length};
 ghost use Rattle.std.specs.Vec.{vec_capacity};
 ghost use Rattle.amo_sets.specs.Sets.{has};
-ghost use Rattle.amo_givens.specs.Givens.{IsJob, IsWorker, is_within};
+ghost use Rattle.amo_params.specs.Givens.{IsJob, IsWorker, is_within};
 ghost use Rattle.amo_kk.specs.Choice.{first_record, record_after_choice};
 ghost use Rattle.amo_kk.specs.Again.{set_of, are_new, are_own_words, record_of_dones, record_again};
 ghost use Rattle.amo_kk.specs.Machine.{record_of, IsHeld, IsTakenUp};
@@ -12,7 +12,7 @@ ghost use Rattle.amo_kk.specs.declared.phase.Phase.TheVariants.{Holding};
 use crate::knowledge::Knowledge;
 use crate::local::Local;
 use crate::phase::Phase;
-use amo_givens::Givens;
+use amo_params::Givens;
 use thiserror::Error;
 
 /// `NoSuchWords`: the error for own registers whose values no worker can have left.

@@ -1,13 +1,13 @@
 //! The registers of a floor as they stood when it was closed.
 ghost use Rattle.std.specs.Prelude.{◌≡◌, ◌+◌, ◌<◌, ◌≤◌, get_or};
-ghost use Rattle.amo_givens.specs.Givens.{IsWorker};
+ghost use Rattle.amo_params.specs.Givens.{IsWorker};
 ghost use Rattle.amo_kk.specs.Words.{next_word, claim_word, done_word};
 ghost use Rattle.amo_words.specs.Faces.{spots};
 ghost use Rattle.amo_words.specs.Settling.{HasClosed};
 
 use crate::floor::{Book, ClosedFloor, Floor};
-use amo_givens::Givens;
 use amo_kk::layout::{claim_word, done_word, next_word};
+use amo_params::Givens;
 use std::alloc::Global;
 
 impl<P: Drop> Floor<P> {

@@ -1,6 +1,6 @@
 //! The state of the registry, as callers see it. None of these calls takes memory.
 ghost use Rattle.std.specs.Prelude.{◌≡◌, ◌-◌, ◌<◌, slice_get, Some};
-ghost use Rattle.amo_givens.specs.Givens.{IsWorker};
+ghost use Rattle.amo_params.specs.Givens.{IsWorker};
 ghost use Rattle.amo_kk.specs.Record.{is_over};
 ghost use Rattle.amo_kk.specs.Machine.{LocalView};
 ghost use Rattle.amo_words.specs.declared.rule.Spot.{Spot};

@@ -1,7 +1,7 @@
 //! The state of a worker, as callers see it. None of these calls takes memory.
 ghost use Rattle.std.specs.Prelude.{◌≡◌, ◌↔◌, true};
 ghost use Rattle.std.specs.Option.{option_to_list};
-ghost use Rattle.amo_givens.specs.Givens.{IsWorker};
+ghost use Rattle.amo_params.specs.Givens.{IsWorker};
 ghost use Rattle.amo_kk.specs.Record.{is_over, jobs_in_hand};
 ghost use Rattle.amo_kk.specs.Lawful.{IsSoundRecord};
 ghost use Rattle.amo_kk.specs.declared.phase.Phase.{Phase};

@@ -1,6 +1,6 @@
 -- `run_on`: the premises of its calls and its promises, by the lemmas of Starts and Backs.
 use Rattle.std.proofs.Common.{List, refl, sym, subst}
-use Rattle.amo_givens.specs.declared.givens.Givens.{Givens}
+use Rattle.amo_params.specs.declared.givens.Givens.{Givens}
 use Rattle.amo_crew.specs.Unsettling.{IsUnsettled}
 use Rattle.amo_crew.specs.Hired.{AreHired, IsCalledOff}
 use Rattle.amo_crew.proofs.Starts.{hired_none, settled_outcome, if_ok, if_err, concluded}

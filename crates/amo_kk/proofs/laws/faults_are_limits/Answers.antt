@@ -1,6 +1,6 @@
--- `faults_are_limits`: its promises, by the lemmas of Faults (amo_givens).
-use Rattle.amo_givens.specs.Limits.{within_limits}
-use Rattle.amo_givens.proofs.Faults.{limits_break_none}
+-- `faults_are_limits`: its promises, by the lemmas of Faults (amo_params).
+use Rattle.amo_params.specs.Limits.{within_limits}
+use Rattle.amo_params.proofs.Faults.{limits_break_none}
 use Rattle.amo_kk.proofs.laws.faults_are_limits.Goals as goal
 
 pub returns : goal.returns

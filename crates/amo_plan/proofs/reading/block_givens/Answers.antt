@@ -1,7 +1,7 @@
 -- `block_givens`: its promises, directly from definitions and clauses.
 use Rattle.std.proofs.Common.{◌≡◌, ℕ, ap, sym, ◌∙◌}
 use Rattle.std.specs.Int.{div_ceil}
-use Rattle.amo_givens.specs.Givens.{givens_of}
+use Rattle.amo_params.specs.Givens.{givens_of}
 use Rattle.amo_plan.specs.Plan.{or_bad_givens}
 use Rattle.amo_plan.proofs.reading.block_givens.Goals as goal
 

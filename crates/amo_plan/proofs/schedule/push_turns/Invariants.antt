@@ -1,6 +1,6 @@
 -- The facts that each pass of a loop of `push_turns` keeps.
 use Rattle.std.proofs.Common.{◌≡◌, ◌++◌, replicate}
-use Rattle.amo_givens.specs.declared.moves.Move.TheVariants.{Turn}
+use Rattle.amo_params.specs.declared.moves.Move.TheVariants.{Turn}
 use Rattle.amo_plan.proofs.schedule.push_turns.Given as goal
 
 abbrev pub invariant-loop-i : goal.invariant-loop-i

@@ -1,7 +1,7 @@
 -- `run_schedule`: what its loop keeps, by the lemmas of Explored and Rounds.
 use Rattle.std.proofs.Common.{◌+◌, ◌%◌, [], ◌∷◌, ap}
-use Rattle.amo_givens.specs.declared.moves.Move.TheVariants.{Turn}
-use Rattle.amo_givens.specs.declared.givens.Givens.{Givens}
+use Rattle.amo_params.specs.declared.moves.Move.TheVariants.{Turn}
+use Rattle.amo_params.specs.declared.givens.Givens.{Givens}
 use Rattle.amo_report.proofs.Explored.{schedule_more, digits_more}
 use Rattle.amo_report.proofs.Rounds.{moves_more}
 use Rattle.amo_report.proofs.explorer.run_schedule.Goals as goal

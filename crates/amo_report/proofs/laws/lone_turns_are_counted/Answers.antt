@@ -1,5 +1,5 @@
 -- `lone_turns_are_counted`: its promises, by the lemmas of Alone (amo_kk) and Stopped.
-use Rattle.amo_givens.specs.Givens.{lone_bound}
+use Rattle.amo_params.specs.Givens.{lone_bound}
 use Rattle.amo_kk.proofs.Alone.{claims_or_ends_soon}
 use Rattle.amo_report.proofs.Stopped.{turns_are}
 use Rattle.amo_report.proofs.laws.lone_turns_are_counted.Goals as goal

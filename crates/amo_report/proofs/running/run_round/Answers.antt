@@ -1,6 +1,6 @@
 -- `run_round`: what its loop keeps, by the lemmas of Rounds.
 use Rattle.std.proofs.Common.{◌+◌, [], ◌∷◌}
-use Rattle.amo_givens.specs.declared.moves.Move.TheVariants.{Turn}
+use Rattle.amo_params.specs.declared.moves.Move.TheVariants.{Turn}
 use Rattle.amo_report.proofs.Rounds.{moves_more, table_more}
 use Rattle.amo_report.proofs.running.run_round.Goals as goal
 

@@ -2,7 +2,7 @@
 use Rattle.std.proofs.Common.{◌≡◌}
 use Rattle.amo_sets.specs.Lists.{table}
 use Rattle.amo_kk.specs.World.{world_after_moves}
-use Rattle.amo_givens.specs.declared.moves.Move.TheVariants.{Turn}
+use Rattle.amo_params.specs.declared.moves.Move.TheVariants.{Turn}
 use Rattle.amo_report.proofs.running.run_round.Given as goal
 
 -- the workers so far have had their turn

@@ -1,9 +1,9 @@
 -- `lone_run`: no overflow, the premises of its calls and its promises, by the lemmas of
 -- ReachedWorlds and Stopped.
 use Rattle.std.proofs.Common.{◌≡◌, ◌-◌, ap, sym, subst, ◌∙◌, arith}
-use Rattle.amo_givens.specs.Givens.{IsWorker, lone_bound}
+use Rattle.amo_params.specs.Givens.{IsWorker, lone_bound}
 use Rattle.amo_kk.specs.Alone.{world_after_turns}
-use Rattle.amo_givens.specs.declared.givens.Givens.{Givens}
+use Rattle.amo_params.specs.declared.givens.Givens.{Givens}
 use Rattle.amo_report.specs.Stops.{lone_turns}
 use Rattle.amo_report.proofs.ReachedWorlds.{reached_worker}
 use Rattle.amo_report.proofs.Stopped.{runs_lone, RunsLone}

@@ -1,7 +1,7 @@
 -- `run_all_out`: the premises of its calls, by the lemmas of ReachedWorlds and Stopped.
 use Rattle.std.proofs.Common.{◌+◌, ◌*◌, ◌≤◌, subst, sym, ap, arith}
-use Rattle.amo_givens.specs.declared.givens.Givens.{Givens}
-use Rattle.amo_givens.specs.Givens.{lone_bound}
+use Rattle.amo_params.specs.declared.givens.Givens.{Givens}
+use Rattle.amo_params.specs.Givens.{lone_bound}
 use Rattle.amo_world.specs.Views.{WorldView}
 use Rattle.amo_report.specs.Reached.{most_before_an_end, most_before_all_ends}
 use Rattle.amo_report.specs.Stops.{LoneRun, all_run_out}

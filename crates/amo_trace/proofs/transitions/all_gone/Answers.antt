@@ -1,6 +1,6 @@
 -- `all_gone`: its promises, by the lemmas of Gone.
 use Rattle.std.proofs.Common.{◌<◌, sym, subst, ◌∙◌}
-use Rattle.amo_givens.specs.declared.givens.Givens.{Givens}
+use Rattle.amo_params.specs.declared.givens.Givens.{Givens}
 use Rattle.amo_trace.proofs.Gone.{one_is_here}
 use Rattle.amo_trace.proofs.transitions.all_gone.Goals as goal
 

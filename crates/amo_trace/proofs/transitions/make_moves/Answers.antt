@@ -1,7 +1,7 @@
 -- `make_moves`: its promises, by the lemmas of Gone.
 use Rattle.std.proofs.Common.{◌≡◌, ◌++◌, ◌+◌, true, drop, sym, ap, ◌∙◌, subst}
 use Rattle.std.proofs.lemmas.List.{append-nil}
-use Rattle.amo_givens.specs.declared.givens.Givens.{Givens}
+use Rattle.amo_params.specs.declared.givens.Givens.{Givens}
 use Rattle.amo_trace.specs.Transitions.{all_gone}
 use Rattle.amo_trace.proofs.Gone.{moves_of_gone, transitions_of_gone}
 use Rattle.amo_trace.proofs.transitions.make_moves.Goals as goal

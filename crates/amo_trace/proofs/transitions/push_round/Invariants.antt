@@ -1,7 +1,7 @@
 -- The facts that each pass of a loop of `push_round` keeps.
 use Rattle.std.proofs.Common.{◌≡◌, ◌++◌}
 use Rattle.amo_sets.specs.Lists.{table}
-use Rattle.amo_givens.specs.declared.moves.Move.TheVariants.{Turn}
+use Rattle.amo_params.specs.declared.moves.Move.TheVariants.{Turn}
 use Rattle.amo_trace.proofs.transitions.push_round.Given as goal
 
 -- the turns of the workers so far

@@ -1,7 +1,7 @@
 -- `look`: the premises of its calls, by the lemmas of Meetings (amo_words).
 use Rattle.std.proofs.Common.{◌≡◌, ◌<◌, ◌≤◌, arith, ap, sym, ◌∙◌, subst, rules}
 use Rattle.std.proofs.lemmas.Grind.{common_steps}
-use Rattle.amo_givens.specs.Givens.{IsWorker}
+use Rattle.amo_params.specs.Givens.{IsWorker}
 use Rattle.amo_words.specs.Faces.{spots}
 use Rattle.amo_words.proofs.Meetings.{back_from}
 use Rattle.amo_words_tests.proofs.floors.look.Goals as goal

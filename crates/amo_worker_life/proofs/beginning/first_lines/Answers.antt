@@ -2,7 +2,7 @@
 use Rattle.std.proofs.Common.{◌≡◌, sym, subst, arith, rules}
 use Rattle.std.specs.Prelude.{IfOk}
 use Rattle.std.proofs.lemmas.List.{length-take-le, take_all}
-use Rattle.amo_givens.specs.declared.limits.TheConstants.{MAX_JOBS}
+use Rattle.amo_params.specs.declared.limits.TheConstants.{MAX_JOBS}
 use Rattle.amo_worker_life.proofs.beginning.first_lines.Goals as goal
 
 pub returns-then-lines-most : goal.returns-then-lines-most

@@ -3,7 +3,7 @@ use Rattle.std.proofs.Common.{◌≡◌, ◌+◌, suc, true, get_or, drop, sym, 
 use Rattle.amo_kk.specs.Object.{first_object, is_step, object_after}
 use Rattle.amo_kk.specs.Run.{first_bad}
 use Rattle.amo_kk.specs.declared.event.Event.TheVariants.{Claimed}
-use Rattle.amo_givens.specs.declared.givens.Givens.{Givens}
+use Rattle.amo_params.specs.declared.givens.Givens.{Givens}
 use Rattle.amo_kk.specs.declared.model.Object.{Object}
 use Rattle.amo_world.specs.Views.{StateView}
 use Rattle.amo_world.proofs.Verdicts.{later, next_run, next_object, next_rest, bad_here, named_no_run, named_first, place_fits}

@@ -1,6 +1,6 @@
 -- The facts that each pass of a loop of `call_back` keeps.
 use Rattle.std.proofs.Common.{◌≡◌, ℕ, List, All, length}
-use Rattle.amo_givens.specs.declared.givens.Givens.{Givens}
+use Rattle.amo_params.specs.declared.givens.Givens.{Givens}
 use Rattle.amo_mailbox.specs.declared.queue.Queue.{Queue}
 use Rattle.amo_crew.specs.Hired.{AreCalledOff, AtTable}
 use Rattle.amo_crew.proofs.settle.calling_off.call_back.Given as goal

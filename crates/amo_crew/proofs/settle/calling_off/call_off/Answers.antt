@@ -1,7 +1,7 @@
 -- `call_off`: the premises of its calls and its promises, by the lemmas of Backs.
 use Rattle.std.proofs.Common.{ℕ, length, replicate, sym, ap, ◌∙◌, subst, arith}
 use Rattle.std.proofs.lemmas.List.{length-map}
-use Rattle.amo_givens.specs.declared.givens.Givens.{Givens}
+use Rattle.amo_params.specs.declared.givens.Givens.{Givens}
 use Rattle.amo_words.specs.Faces.{ClosedView, spots}
 use Rattle.amo_words.specs.Settling.{HasClosed}
 use Rattle.amo_crew.specs.declared.outcome.End.TheVariants.{NotStarted}

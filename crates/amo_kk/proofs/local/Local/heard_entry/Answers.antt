@@ -2,7 +2,7 @@
 use Rattle.std.proofs.Common.{◌≡◌, ◌+◌, ◌-◌, List, ℕ, set, ap, sym, refl, subst, ◌∙◌, arith}
 use Rattle.std.specs.Vec.{vec_capacity}
 use Rattle.amo_sets.specs.Sets.{with_number}
-use Rattle.amo_givens.specs.Givens.{IsJob, IsOther}
+use Rattle.amo_params.specs.Givens.{IsJob, IsOther}
 use Rattle.amo_kk.specs.Step.{want, want_in, MayLoad}
 use Rattle.amo_kk.specs.declared.model.Record.{Record}
 use Rattle.amo_kk.specs.declared.phase.Phase.TheVariants.{Reading}

@@ -6,7 +6,7 @@ use Rattle.amo_kk.specs.Again.{record_of_dones}
 use Rattle.amo_kk.specs.Lawful.{IsSoundRecord}
 use Rattle.amo_kk.specs.Knowledge.{KnowledgeView}
 use Rattle.amo_kk.specs.Machine.{LocalView, record_of, IsTakenUp}
-use Rattle.amo_givens.specs.declared.givens.Givens.{Givens}
+use Rattle.amo_params.specs.declared.givens.Givens.{Givens}
 use Rattle.amo_kk.specs.declared.phase.Phase.TheVariants.{Holding}
 use Rattle.amo_kk.specs.declared.model.Record.{Record}
 use Rattle.amo_kk.proofs.Fit.{doubted_fit, claims_fit}

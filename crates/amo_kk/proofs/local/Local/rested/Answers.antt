@@ -6,7 +6,7 @@ use Rattle.amo_kk.specs.Again.{set_of, record_of_dones}
 use Rattle.amo_kk.specs.Lawful.{IsSoundRecord}
 use Rattle.amo_kk.specs.Knowledge.{KnowledgeView, LeadsTo}
 use Rattle.amo_kk.specs.Machine.{LocalView, record_of, IsTakenUp}
-use Rattle.amo_givens.specs.declared.givens.Givens.{Givens}
+use Rattle.amo_params.specs.declared.givens.Givens.{Givens}
 use Rattle.amo_kk.specs.declared.phase.Phase.{Phase}
 use Rattle.amo_kk.specs.declared.model.Record.{Record}
 use Rattle.amo_kk.proofs.Fit.{rested_fit}

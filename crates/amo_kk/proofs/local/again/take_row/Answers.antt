@@ -2,7 +2,7 @@
 use Rattle.std.proofs.Common.{◌≡◌, ℕ, ◌+◌, true, not, ◌&&◌, List, [], ◌∷◌, ◌++◌, take, drop, get_or, ap, sym, ◌∙◌}
 use Rattle.std.proofs.lemmas.List.{take_more, drop_more}
 use Rattle.amo_sets.specs.Sets.{has, with_number}
-use Rattle.amo_givens.specs.Givens.{is_within}
+use Rattle.amo_params.specs.Givens.{is_within}
 use Rattle.amo_kk.specs.Again.{set_of, are_new}
 use Rattle.amo_kk.specs.Knowledge.{KnowledgeView}
 use Rattle.amo_kk.proofs.Again.{learned-push, new_next}

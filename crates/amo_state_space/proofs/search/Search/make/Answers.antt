@@ -1,7 +1,7 @@
 -- `Search::make`: what its type keeps, by the lemmas of Paths.
 use Rattle.std.proofs.Common.{sym, subst}
-use Rattle.amo_givens.specs.Givens.{IsWorker}
-use Rattle.amo_givens.specs.Moves.{worker_of}
+use Rattle.amo_params.specs.Givens.{IsWorker}
+use Rattle.amo_params.specs.Moves.{worker_of}
 use Rattle.amo_state_space.specs.Search.{SearchView}
 use Rattle.amo_state_space.proofs.Paths.{search_more}
 use Rattle.amo_state_space.proofs.search.Search.make.Goals as goal

@@ -1,7 +1,7 @@
 -- `Floor::close`: what its type keeps and its promises, by the lemmas of Whole.
 use Rattle.std.proofs.Common.{◌≡◌, List, ap, refl, sym, subst, ◌∙◌}
 use Rattle.std.specs.Mem.Slots.{slots_items}
-use Rattle.amo_givens.specs.declared.givens.Givens.{Givens}
+use Rattle.amo_params.specs.declared.givens.Givens.{Givens}
 use Rattle.amo_words.specs.declared.rule.Spot.{Spot}
 use Rattle.amo_kk.specs.World.{world_of}
 use Rattle.amo_words.specs.Faces.{AreShown, ClosedView, Seated, spots, spots_of}

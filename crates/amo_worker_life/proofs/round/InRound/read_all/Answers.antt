@@ -1,7 +1,7 @@
 -- `InRound::read_all`: the premises of its calls, what its loop keeps and its promises, by the
 -- lemmas of Clearing.
 use Rattle.std.proofs.Common.{◌+◌, ◌-◌, subst, ◌∙◌, List}
-use Rattle.amo_givens.specs.declared.limits.TheConstants.{MAX_WORKERS}
+use Rattle.amo_params.specs.declared.limits.TheConstants.{MAX_WORKERS}
 use Rattle.amo_host.specs.declared.model.LogFile.{LogFile}
 use Rattle.amo_host.specs.declared.model.LogFile.TheVariants.{Journal}
 use Rattle.amo_host.specs.Logs.{journals_from}

@@ -1,6 +1,6 @@
 -- The facts that each pass of a loop of `InRound::read_all` keeps.
 use Rattle.std.proofs.Common.{◌≡◌, ◌+◌, ◌-◌}
-use Rattle.amo_givens.specs.declared.limits.TheConstants.{MAX_WORKERS}
+use Rattle.amo_params.specs.declared.limits.TheConstants.{MAX_WORKERS}
 use Rattle.amo_host.specs.Logs.{journals_from}
 use Rattle.amo_worker_life.specs.Reading.{logs_of, Reads}
 use Rattle.amo_worker_life.specs.Where.{me_of}

@@ -2,7 +2,7 @@
 -- lemmas of AllLogs and Clearing.
 use Rattle.std.proofs.Common.{◌+◌, ◌-◌, List, option_map, subst, ◌∙◌}
 use Rattle.std.specs.Prelude.{Result, Ok, Err, OnErr}
-use Rattle.amo_givens.specs.declared.limits.TheConstants.{MAX_WORKERS}
+use Rattle.amo_params.specs.declared.limits.TheConstants.{MAX_WORKERS}
 use Rattle.amo_host.specs.declared.model.LogFile.{LogFile}
 use Rattle.amo_host.specs.declared.model.LogFile.TheVariants.{Journal}
 use Rattle.amo_host.specs.Logs.{journals_from}

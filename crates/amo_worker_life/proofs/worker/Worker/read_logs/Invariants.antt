@@ -1,6 +1,6 @@
 -- The facts that each pass of a loop of `Worker::read_logs` keeps.
 use Rattle.std.proofs.Common.{◌≡◌, ◌+◌, ◌-◌, option_map}
-use Rattle.amo_givens.specs.declared.limits.TheConstants.{MAX_WORKERS}
+use Rattle.amo_params.specs.declared.limits.TheConstants.{MAX_WORKERS}
 use Rattle.amo_host.specs.Logs.{journals_from}
 use Rattle.amo_worker_life.specs.Reading.{logs_of, ReadsTo}
 use Rattle.amo_worker_life.specs.Where.{me_of}

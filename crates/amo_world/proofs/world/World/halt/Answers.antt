@@ -2,7 +2,7 @@
 -- Turning.
 use Rattle.std.proofs.Common.{◌≡◌, true, false, refl, sym, subst, ap, ◌∙◌, arith, set, ◌-◌, List}
 use Rattle.std.specs.Vec.{vec_capacity}
-use Rattle.amo_givens.specs.Givens.{IsWorker}
+use Rattle.amo_params.specs.Givens.{IsWorker}
 use Rattle.amo_kk.specs.World.{process, world_after_halt}
 use Rattle.amo_kk.specs.declared.event.Event.{Event}
 use Rattle.amo_world.specs.Views.{WorldView}

@@ -4,7 +4,7 @@ use Rattle.std.proofs.Common.{ap, subst, ◌∙◌}
 use Rattle.amo_kk.specs.Fits.{WantFits}
 use Rattle.amo_kk.specs.Step.{want}
 use Rattle.amo_kk.specs.World.{loaded_value}
-use Rattle.amo_givens.specs.declared.givens.Givens.{Givens}
+use Rattle.amo_params.specs.declared.givens.Givens.{Givens}
 use Rattle.amo_kk.specs.declared.model.Process.{Process}
 use Rattle.amo_world.proofs.world.World.heard.Goals as goal
 

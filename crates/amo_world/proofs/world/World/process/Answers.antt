@@ -1,7 +1,7 @@
 -- `World::process`: its promises, directly from definitions and clauses.
 use Rattle.std.proofs.Common.{◌+◌, sym, ap, ◌∙◌, subst}
 use Rattle.std.specs.Vec.{vec_capacity}
-use Rattle.amo_givens.specs.Givens.{IsWorker}
+use Rattle.amo_params.specs.Givens.{IsWorker}
 use Rattle.amo_kk.specs.World.{process}
 use Rattle.amo_world.specs.Views.{WorldView}
 use Rattle.amo_world.proofs.Turning as turning

@@ -1,6 +1,6 @@
 -- The facts that each pass of a loop of `World::run` keeps.
 use Rattle.std.proofs.Common.{◌≡◌, true, drop}
-use Rattle.amo_givens.specs.Moves.{are_in_range}
+use Rattle.amo_params.specs.Moves.{are_in_range}
 use Rattle.amo_kk.specs.World.{world_after_moves}
 use Rattle.amo_world.proofs.world.World.run.Given as goal
 

@@ -1,6 +1,6 @@
 -- The facts that each pass of a loop of `World::run_alone` keeps.
 use Rattle.std.proofs.Common.{◌≡◌, ◌-◌, ◌≤◌}
-use Rattle.amo_givens.specs.Givens.{lone_bound}
+use Rattle.amo_params.specs.Givens.{lone_bound}
 use Rattle.amo_world.proofs.Resting.{IsUnderWay}
 use Rattle.amo_world.proofs.world.World.run_alone.Given as goal
 

@@ -1,1 +1,0 @@
--- Lemmas of `amo_admission`, by subject. Folders have the proofs of functions, by module.

@@ -1,9 +1,0 @@
--- The facts that each pass of a loop of `put_all` keeps.
-use Rattle.std.proofs.Common.{◌+◌}
-use Rattle.amo_admission_rules.specs.Files.{journals_since}
-use Rattle.amo_admission_rules.specs.Phase.{Puts}
-use Rattle.amo_admission_rules.proofs.filling.put_all.Given as goal
-
--- the journals from that of worker p + 1 on are left
-abbrev pub invariant-loop-p : goal.invariant-loop-p
-invariant-loop-p g l = g.H.DoorHost.stands l.host (Puts (journals_since (l.p + 1)))

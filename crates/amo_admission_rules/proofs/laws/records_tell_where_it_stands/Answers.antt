@@ -1,6 +1,0 @@
--- `records_tell_where_it_stands`: its promises, by the lemmas of Steps.
-use Rattle.amo_admission_rules.proofs.Steps.{stands_more}
-use Rattle.amo_admission_rules.proofs.laws.records_tell_where_it_stands.Goals as goal
-
-pub returns : goal.returns
-returns c = stands_more

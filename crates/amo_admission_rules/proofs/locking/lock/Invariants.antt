@@ -1,8 +1,0 @@
--- The facts that each pass of a loop of `lock` keeps.
-use Rattle.std.proofs.Common.{true}
-use Rattle.amo_admission_rules.specs.Phase.{Locks}
-use Rattle.amo_admission_rules.proofs.locking.lock.Given as goal
-
--- it has tried the lock, and doesn't have it
-abbrev pub invariant-loop-try : goal.invariant-loop-try
-invariant-loop-try g l = g.H.DoorHost.stands l.host (Locks true)

@@ -1,0 +1,10 @@
+-- `Site::look`: its promises, by the lemmas of Steps.
+use Rattle.std.proofs.Common.{refl}
+use Rattle.amo_call_log_judge.proofs.Steps.{looks_follows, there, with_journal}
+use Rattle.amo_call_log_judge.proofs.site.Site.look.Goals as goal
+
+pub returns : goal.returns
+returns c =
+    looks_follows c.args.self.now (with_journal c.args.self.now c.args.worker c.look.new.self) c.args.worker c.index_mut.result.now c.look.new.self c.requires
+    (there c.args.self.now.journals.items c.args.worker c.index_mut.result.now c.requires c.index_mut.ensures.value) refl refl refl
+    c.args.other c.in_ok-look.ensures.kept c.in_ok-look.ensures.stage c.in_ok-look.ensures.seen

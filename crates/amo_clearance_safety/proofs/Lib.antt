@@ -1,3 +1,0 @@
--- Lemmas of `amo_clearance_safety`, by subject. Folders have the proofs of functions, by module.
-mod Safe
-mod Twice

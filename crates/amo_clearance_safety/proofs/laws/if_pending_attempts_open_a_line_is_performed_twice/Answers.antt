@@ -1,6 +1,0 @@
--- `if_pending_attempts_open_a_line_is_performed_twice`: its promises, by the lemmas of Twice.
-use Rattle.amo_clearance_safety.proofs.Twice.{if_pending_opens}
-use Rattle.amo_clearance_safety.proofs.laws.if_pending_attempts_open_a_line_is_performed_twice.Goals as goal
-
-pub returns : goal.returns
-returns c = if_pending_opens

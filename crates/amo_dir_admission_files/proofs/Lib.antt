@@ -1,0 +1,1 @@
+-- Lemmas of `amo_dir_admission_files`, by subject. Folders have the proofs of functions, by module.

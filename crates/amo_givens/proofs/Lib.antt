@@ -1,2 +1,0 @@
--- Lemmas of `amo_givens`, by subject. Folders have the proofs of functions, by module.
-pub mod Faults

@@ -1,6 +1,0 @@
--- `Givens::try_new`: its promises, by the lemmas of Faults.
-use Rattle.amo_givens.proofs.Faults.{givens_within}
-use Rattle.amo_givens.proofs.givens.Givens.try_new.Goals as goal
-
-pub returns : goal.returns
-returns c = givens_within _ _ _ _

@@ -1,6 +1,0 @@
--- `a_text_is_the_log_of_one_list`: its promises, by the lemmas of Logs.
-use Rattle.amo_run_judge.proofs.Logs.{same_log}
-use Rattle.amo_run_judge.proofs.laws.a_text_is_the_log_of_one_list.Goals as goal
-
-pub returns : goal.returns
-returns c = same_log
