@@ -1,11 +1,11 @@
 //! The checks that the file system of a run's folder keeps synced data.
-use amo_fs::{Mount, is_local, mnt_id_in, mount_of_id, read_file, refused_default, refused_option};
+use amo_fs::{
+    Mount, is_local, mnt_id_in, mount_of_id, open_existing, read_existing, refused_default,
+    refused_option,
+};
 use amo_run_faults::{Disk, Door, Fault, Item, Setting, had};
+use amo_system_calls::{Mode, SystemCalls};
 use std::alloc::{AllocError, Global};
-use std::fs;
-use std::io::ErrorKind;
-use std::os::fd::AsRawFd;
-use std::rt::HostRuntime;
 
 /// Checks that the folder of this path lies on an accepted file system whose mount keeps synced
 /// data. The mount is the one on which an open handle of the folder lies.
@@ -13,25 +13,26 @@ use std::rt::HostRuntime;
 /// # Errors
 ///
 /// `Door::Disk` if the folder is refused, and `Read` if the system's texts can't be read.
-pub(crate) fn check_file_system(
-    rt: HostRuntime,
+pub(crate) fn check_file_system<S: SystemCalls>(
+    system: &mut S,
     setting: &Setting<'_>,
     path: &str,
 ) -> Result<(), Fault> {
-    let folder = had(Item::Run, fs::open(&rt, path))?;
-    let name = format!(in rt.alloc(); "/proc/self/fdinfo/{}", folder.as_raw_fd())?;
-    let handle = had(Item::Handle, fs::read(&rt, name.as_str()))?;
-    let mounts = had(Item::Mounts, fs::read(&rt, "/proc/self/mountinfo"))?;
+    let folder = had(Item::Run, open_existing(system, path, Mode::Read))?;
+    let number = system.number_of(&folder);
+    let name = format!(in system.alloc(); "/proc/self/fdinfo/{number}")?;
+    let handle = had(Item::Handle, read_existing(system, name.as_str()))?;
+    let mounts = had(Item::Mounts, read_existing(system, "/proc/self/mountinfo"))?;
     drop(folder);
-    let Some(id) = mnt_id_in(rt.alloc(), &handle)? else {
+    let Some(id) = mnt_id_in(system.alloc(), &handle)? else {
         return Err(refused(Disk::Unknown));
     };
-    let Some(mount) = mount_of_id(rt.alloc(), &mounts, id)? else {
+    let Some(mount) = mount_of_id(system.alloc(), &mounts, id)? else {
         return Err(refused(Disk::Unknown));
     };
-    check_type(rt.alloc(), setting, mount.kind)?;
-    check_options(rt.alloc(), &mount)?;
-    check_defaults(rt, &mount)
+    check_type(system.alloc(), setting, mount.kind)?;
+    check_options(system.alloc(), &mount)?;
+    check_defaults(system, &mount)
 }
 
 /// Checks that a file system of this type is accepted: it is a known local one, or it is named.
@@ -59,25 +60,25 @@ fn check_options(alloc: Global, mount: &Mount<'_>) -> Result<(), Fault> {
 
 /// Checks that ext3 and ext4 have no such option as a default, which their mount doesn't show. If
 /// the system has no list of their defaults, as in some containers, nothing is refused.
-fn check_defaults(rt: HostRuntime, mount: &Mount<'_>) -> Result<(), Fault> {
+fn check_defaults<S: SystemCalls>(system: &mut S, mount: &Mount<'_>) -> Result<(), Fault> {
     if mount.kind != b"ext3".as_slice() && mount.kind != b"ext4".as_slice() {
         return Ok(());
     }
-    let Some(path) = defaults_of(rt, mount.device)? else {
+    let Some(path) = defaults_of(system, mount.device)? else {
         return Ok(());
     };
-    let Some(options) = had(Item::Ext4, read_file(&rt, path.as_str()))? else {
+    let Some(options) = had(Item::Ext4, system.read_file(path.as_str()))? else {
         return Ok(());
     };
-    match refused_default(rt.alloc(), &options)? {
+    match refused_default(system.alloc(), &options)? {
         Some(option) => {
             let other = if option == b"data=writeback".as_slice() {
                 "data=ordered"
             } else {
                 "barrier=1"
             };
-            let option = text_of(rt.alloc(), option)?;
-            let other = String::from_str(rt.alloc(), other)?;
+            let option = text_of(system.alloc(), option)?;
+            let other = String::from_str(system.alloc(), other)?;
             Err(refused(Disk::Default(option, other)))
         }
         None => Ok(()),
@@ -86,16 +87,14 @@ fn check_defaults(rt: HostRuntime, mount: &Mount<'_>) -> Result<(), Fault> {
 
 /// Returns the path of the system's list of options of the ext3 or ext4 file system on this device,
 /// which is given as MAJOR:MINOR. Returns `None` if the system has no name of the device.
-fn defaults_of(rt: HostRuntime, device: &[u8]) -> Result<Option<String>, Fault> {
-    let device = text_of(rt.alloc(), device)?;
-    let link = format!(in rt.alloc(); "/sys/dev/block/{device}")?;
-    let path = match fs::canonicalize(&rt, link.as_str()) {
-        Ok(path) => path,
-        Err(error) if error.kind() == ErrorKind::NotFound => return Ok(None),
-        Err(error) => return had(Item::Ext4, Err(error)),
+fn defaults_of<S: SystemCalls>(system: &mut S, device: &[u8]) -> Result<Option<String>, Fault> {
+    let device = text_of(system.alloc(), device)?;
+    let link = format!(in system.alloc(); "/sys/dev/block/{device}")?;
+    let Some(path) = had(Item::Ext4, system.follow(link.as_str()))? else {
+        return Ok(None);
     };
     match path.as_str().rsplit_once('/') {
-        Some((_, name)) => Ok(Some(format!(in rt.alloc(); "/proc/fs/ext4/{name}/options")?)),
+        Some((_, name)) => Ok(Some(format!(in system.alloc(); "/proc/fs/ext4/{name}/options")?)),
         None => Ok(None),
     }
 }

@@ -4,14 +4,14 @@ ghost use Rattle.std.specs.Prelude.{◌≡◌};
 use crate::disk::check_file_system;
 use crate::list::check_jobs;
 use amo_dir_admission::{DoorHost, Failed, FolderFile, Halt, Place, Refusal, RunFile, is_first};
-use amo_fs::{is_mine, make_file, make_folder, make_if_missing, names_in, sync_folder};
+use amo_fs::{make_and_rename, make_file, make_if_missing, read_existing, sync_folder};
 use amo_run_dir::{bytes_of, has_id, len_of, lock_of, path_of, sync};
 use amo_run_faults::{Door, Fault, Item, Later, Setting, had, is_id, written};
+use amo_system_calls::{LockMode, Os, SystemCalls};
 use std::fs::File;
+use std::io;
 use std::io::ErrorKind;
 use std::rt::HostRuntime;
-use std::time::Duration;
-use std::{fs, thread};
 
 /// The pause between two tries of the lock, in milliseconds.
 const PAUSE: u64 = 20;
@@ -19,7 +19,7 @@ const PAUSE: u64 = 20;
 /// The files of a run's folder, as a door has them. After a call has failed, it knows why.
 #[derive(Drop)]
 pub(crate) struct DoorFiles<'a> {
-    rt: HostRuntime,
+    system: Os,
     setting: Setting<'a>,
     /// The path of the user's list. `None` for a check by which nothing is made.
     list: Option<&'a str>,
@@ -39,7 +39,7 @@ impl<'a> DoorFiles<'a> {
         list: Option<&'a str>,
     ) -> DoorFiles<'a> {
         DoorFiles {
-            rt,
+            system: Os::new(rt),
             setting: *setting,
             list,
             beside: String::new(rt.alloc()),
@@ -76,32 +76,31 @@ impl<'a> DoorFiles<'a> {
     }
 
     /// Returns true if something has the folder's name, as the host's `is_there` does.
-    fn there(&self) -> Result<bool, Fault> {
-        match fs::symlink_metadata(&self.rt, self.setting.run) {
-            Ok(_) => Ok(true),
-            Err(error) if error.kind() == ErrorKind::NotFound => Ok(false),
-            Err(error) => Err(Fault::Read(Item::Run, error)),
-        }
+    fn there(&mut self) -> Result<bool, Fault> {
+        let found = had(Item::Run, self.system.look(self.setting.run, false))?;
+        Ok(found.is_some())
     }
 
     /// Returns true if a folder has the name, as the host's `is_folder` does.
-    fn folder(&self) -> Result<bool, Fault> {
-        let found = had(Item::Run, fs::symlink_metadata(&self.rt, self.setting.run))?;
-        Ok(found.is_dir())
+    fn folder(&mut self) -> Result<bool, Fault> {
+        match had(Item::Run, self.system.look(self.setting.run, false))? {
+            Some(found) => Ok(found.is_folder),
+            None => Ok(false),
+        }
     }
 
     /// Checks the list, as the host's `check_list` does.
-    fn list_checked(&self) -> Result<(), Fault> {
+    fn list_checked(&mut self) -> Result<(), Fault> {
         match self.list {
-            Some(list) => check_jobs(self.rt, &self.setting, list),
+            Some(list) => check_jobs(&mut self.system, &self.setting, list),
             None => Err(Fault::NoWay),
         }
     }
 
     /// Returns the files in the folder, as the host's `files` does.
-    fn listed(&self) -> Result<Vec<FolderFile>, Fault> {
-        let mut files = Vec::new(self.rt.alloc());
-        for name in had(Item::Run, names_in(&self.rt, self.setting.run))? {
+    fn listed(&mut self) -> Result<Vec<FolderFile>, Fault> {
+        let mut files = Vec::new(self.system.alloc());
+        for name in had(Item::Run, self.system.names_in(self.setting.run))? {
             let len = self.len_at(name.as_str())?;
             files.push(FolderFile { name, len })?;
         }
@@ -110,44 +109,58 @@ impl<'a> DoorFiles<'a> {
 
     /// Returns how many bytes the file of this name has, if it is a plain file that a door makes
     /// before the id. Another file isn't looked at.
-    fn len_at(&self, name: &str) -> Result<Option<u64>, Fault> {
+    fn len_at(&mut self, name: &str) -> Result<Option<u64>, Fault> {
         if !is_first(name.as_bytes()) {
             return Ok(None);
         }
-        let path = format!(in self.rt.alloc(); "{}/{name}", self.setting.run)?;
-        let found = had(Item::Run, fs::symlink_metadata(&self.rt, path.as_str()))?;
-        if found.is_file() {
-            Ok(Some(found.len()))
-        } else {
-            Ok(None)
+        let path = format!(in self.system.alloc(); "{}/{name}", self.setting.run)?;
+        match had(Item::Run, self.system.look(path.as_str(), false))? {
+            Some(found) if found.is_file => Ok(Some(found.len)),
+            _ => Ok(None),
         }
     }
 
     /// Returns a path in this folder that nobody else has.
-    fn drawn(&self, place: Place) -> Result<String, Fault> {
-        let random = random(self.rt)?;
+    fn drawn(&mut self, place: Place) -> Result<String, Fault> {
+        let random = random(&mut self.system)?;
         let run = self.setting.run;
         match place {
-            Place::Above => Ok(format!(in self.rt.alloc(); "{run}.new-{random}")?),
-            Place::Run => Ok(format!(in self.rt.alloc(); "{run}/door.{random}.new")?),
+            Place::Above => Ok(format!(in self.system.alloc(); "{run}.new-{random}")?),
+            Place::Run => Ok(format!(in self.system.alloc(); "{run}/door.{random}.new")?),
         }
     }
 
     /// Returns an id, as the host's `draw_id` does.
-    fn id_drawn(&self) -> Result<Vec<u8>, Fault> {
-        let id = format!(in self.rt.alloc(); "{}\n", random(self.rt)?)?;
+    fn id_drawn(&mut self) -> Result<Vec<u8>, Fault> {
+        let random = random(&mut self.system)?;
+        let id = format!(in self.system.alloc(); "{random}\n")?;
         Ok(id.into_bytes())
     }
 
+    /// Makes the folder beside, as the host's `make_beside` does.
+    fn folder_beside(&mut self) -> Result<(), Fault> {
+        if written(Item::Run, self.system.make_folder(self.beside.as_str()))? {
+            Ok(())
+        } else {
+            let taken = io::Error::from(ErrorKind::AlreadyExists);
+            Err(Fault::Write(Item::Run, taken))
+        }
+    }
+
     /// Makes a file in the folder beside, as the host's `make_file` does.
-    fn made_beside(&self, item: Item, bytes: &[u8]) -> Result<(), Fault> {
-        let path = format!(in self.rt.alloc(); "{}/{item}", self.beside)?;
-        written(item, make_file(&self.rt, path.as_str(), bytes))
+    fn made_beside(&mut self, item: Item, bytes: &[u8]) -> Result<(), Fault> {
+        let path = format!(in self.system.alloc(); "{}/{item}", self.beside)?;
+        written(item, make_file(&mut self.system, path.as_str(), bytes))
     }
 
     /// Tries the lock of the round, and returns true if this process has got it.
     fn locked(&mut self) -> Result<bool, Fault> {
-        match lock_of(self.rt, &self.setting, Item::Round)? {
+        match lock_of(
+            &mut self.system,
+            &self.setting,
+            Item::Round,
+            LockMode::Exclusive,
+        )? {
             Some(handle) => {
                 self.lock = Some(handle);
                 Ok(true)
@@ -157,20 +170,20 @@ impl<'a> DoorFiles<'a> {
     }
 
     /// Makes a file of the run if it is missing, as the host's `put` does.
-    fn made_within(&self, item: Item, bytes: &[u8]) -> Result<(), Fault> {
-        let path = path_of(self.rt, &self.setting, item)?;
-        let made = make_if_missing(&self.rt, path.as_str(), self.beside.as_str(), bytes);
-        written(item, made)
+    fn made_within(&mut self, item: Item, bytes: &[u8]) -> Result<(), Fault> {
+        let path = path_of(self.system.alloc(), &self.setting, item)?;
+        let beside = self.beside.as_str();
+        let made = make_if_missing(&mut self.system, path.as_str(), beside, bytes);
+        written(item, made)?;
+        Ok(())
     }
 
     /// Puts a file in the place of one of the run, as the host's `replace` does.
-    fn replaced(&self, item: Item, bytes: &[u8]) -> Result<(), Fault> {
-        let path = path_of(self.rt, &self.setting, item)?;
-        written(item, make_file(&self.rt, self.beside.as_str(), bytes))?;
-        written(
-            item,
-            fs::rename(&self.rt, self.beside.as_str(), path.as_str()),
-        )
+    fn replaced(&mut self, item: Item, bytes: &[u8]) -> Result<(), Fault> {
+        let path = path_of(self.system.alloc(), &self.setting, item)?;
+        let beside = self.beside.as_str();
+        let made = make_and_rename(&mut self.system, path.as_str(), beside, bytes);
+        written(item, made)
     }
 }
 
@@ -188,7 +201,7 @@ impl<'a> DoorHost for DoorFiles<'a> {
     }
 
     fn is_own(&mut self) -> Result<bool, Failed> {
-        let found = had(Item::Run, is_mine(&self.rt, self.setting.run));
+        let found = had(Item::Run, self.system.is_own(self.setting.run));
         self.told(found)
     }
 
@@ -197,22 +210,22 @@ impl<'a> DoorHost for DoorFiles<'a> {
             Place::Above => parent_of(self.setting.run),
             Place::Run => self.setting.run,
         };
-        let checked = check_file_system(self.rt, &self.setting, path);
+        let checked = check_file_system(&mut self.system, &self.setting, path);
         self.told(checked)
     }
 
     fn read_record(&mut self) -> Result<Option<Vec<u8>>, Failed> {
-        let bytes = bytes_of(self.rt, &self.setting, Item::Record);
+        let bytes = bytes_of(&mut self.system, &self.setting, Item::Record);
         self.told(bytes)
     }
 
     fn has_id(&mut self) -> Result<bool, Failed> {
-        let found = has_id(self.rt, &self.setting);
+        let found = has_id(&mut self.system, &self.setting);
         self.told(found)
     }
 
     fn len_of(&mut self, file: RunFile) -> Result<Option<u64>, Failed> {
-        let len = len_of(self.rt, &self.setting, item_of(file));
+        let len = len_of(&mut self.system, &self.setting, item_of(file));
         self.told(len)
     }
 
@@ -238,15 +251,13 @@ impl<'a> DoorHost for DoorFiles<'a> {
     }
 
     fn make_folder(&mut self) -> Result<(), Failed> {
-        let made = match make_folder(&self.rt, self.setting.run) {
-            Err(error) if error.kind() == ErrorKind::AlreadyExists => Ok(()),
-            made => written(Item::Run, made),
-        };
-        self.told(made)
+        let made = written(Item::Run, self.system.make_folder(self.setting.run));
+        self.told(made)?;
+        Ok(())
     }
 
     fn make_beside(&mut self) -> Result<(), Failed> {
-        let made = written(Item::Run, make_folder(&self.rt, self.beside.as_str()));
+        let made = self.folder_beside();
         self.told(made)
     }
 
@@ -256,17 +267,20 @@ impl<'a> DoorHost for DoorFiles<'a> {
     }
 
     fn sync_beside(&mut self) -> Result<(), Failed> {
-        let synced = written(Item::Run, sync_folder(&self.rt, self.beside.as_str()));
+        let synced = written(
+            Item::Run,
+            sync_folder(&mut self.system, self.beside.as_str()),
+        );
         self.told(synced)
     }
 
     fn rename(&mut self) -> Result<(), Failed> {
-        let renamed = fs::rename(&self.rt, self.beside.as_str(), self.setting.run);
+        let renamed = self.system.rename(self.beside.as_str(), self.setting.run);
         self.told(written(Item::Run, renamed))
     }
 
     fn remove_beside(&mut self) {
-        let _ = fs::remove_dir_all(&self.rt, self.beside.as_str());
+        let _ = self.system.remove_folder(self.beside.as_str());
     }
 
     fn try_lock(&mut self) -> Result<bool, Failed> {
@@ -289,18 +303,18 @@ impl<'a> DoorHost for DoorFiles<'a> {
     }
 
     fn sync_folder(&mut self) -> Result<(), Failed> {
-        let synced = sync(self.rt, &self.setting);
+        let synced = sync(&mut self.system, &self.setting);
         self.told(synced)
     }
 
     fn sync_above(&mut self) -> Result<(), Failed> {
         let above = parent_of(self.setting.run);
-        let synced = written(Item::Run, sync_folder(&self.rt, above));
+        let synced = written(Item::Run, sync_folder(&mut self.system, above));
         self.told(synced)
     }
 
     fn pause(&self) {
-        thread::sleep(&self.rt, Duration::from_millis(PAUSE));
+        self.system.pause(PAUSE);
     }
 }
 
@@ -342,13 +356,15 @@ fn parent_of(path: &str) -> &str {
 }
 
 /// Returns 32 hexadecimal digits that nobody else has.
-fn random(rt: HostRuntime) -> Result<String, Fault> {
-    let given = had(
-        Item::Random,
-        fs::read_to_string(&rt, "/proc/sys/kernel/random/uuid"),
-    )?;
-    let mut digits = String::new(rt.alloc());
-    for part in given.as_str().trim_end().split('-') {
+fn random<S: SystemCalls>(system: &mut S) -> Result<String, Fault> {
+    let path = "/proc/sys/kernel/random/uuid";
+    let given = had(Item::Random, read_existing(system, path))?;
+    let mut digits = String::new(system.alloc());
+    for part in std::str::from_utf8(&given)
+        .unwrap_or("")
+        .trim_end()
+        .split('-')
+    {
         digits.push_str(part)?;
     }
     if is_id(digits.as_str().as_bytes()) {

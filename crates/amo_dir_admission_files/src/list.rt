@@ -5,23 +5,27 @@ ghost use Rattle.amo_run_files.specs.Lines.{lines_in, BeginsWith};
 ghost use Rattle.amo_run_files.specs.Refusals.{IsTaken};
 ghost use Rattle.amo_dir_admission_files.specs.Grown.{IsWhyNotGrown};
 
+use amo_fs::read_existing;
 use amo_run_dir::{known, record_of};
 use amo_run_faults::{Fault, Item, Setting, had};
 use amo_run_files::{Jobs, JobsFault, first_difference};
+use amo_system_calls::SystemCalls;
 use std::alloc::Global;
-use std::fs;
-use std::rt::HostRuntime;
 
 /// Checks that the jobs' file of this path can be that of this run.
 ///
 /// # Errors
 ///
 /// The fault of a jobs' file that can't be, or of a file that can't be read.
-pub(crate) fn check_jobs(rt: HostRuntime, setting: &Setting<'_>, list: &str) -> Result<(), Fault> {
-    let list = had(Item::List, fs::read(&rt, list))?;
-    let last = record_of(rt, setting)?;
-    let known = known(rt, setting, last.as_ref())?;
-    grown(rt.alloc(), &known, &list, last.is_some())?;
+pub(crate) fn check_jobs<S: SystemCalls>(
+    system: &mut S,
+    setting: &Setting<'_>,
+    list: &str,
+) -> Result<(), Fault> {
+    let list = had(Item::List, read_existing(system, list))?;
+    let last = record_of(system, setting)?;
+    let known = known(system, setting, last.as_ref())?;
+    grown(system.alloc(), &known, &list, last.is_some())?;
     Ok(())
 }
 

@@ -3,8 +3,8 @@ ghost use Rattle.std.specs.Prelude.{◌≡◌, ◌+◌, ◌≤◌, ◌<◌, leng
 ghost use Rattle.amo_journal.specs.Device.{Holds};
 ghost use Rattle.amo_journal.specs.declared.device.DeviceError.TheVariants.{Failed};
 
-use crate::disk_file::DiskFile;
 use amo_journal::{Device, DeviceError};
+use amo_system_calls::DiskFile;
 use std::alloc::Global;
 use std::fs::File;
 use std::io;

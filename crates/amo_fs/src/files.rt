@@ -1,155 +1,168 @@
-//! Making, reading and replacing files of a folder.
-use std::fs::{DirBuilder, File, Files, OpenOptions};
-use std::io::{ErrorKind, Write};
-use std::os::unix::fs::{DirBuilderExt, MetadataExt, OpenOptionsExt};
-use std::{fs, io};
+//! Making and replacing files of a folder, each so that a power cut leaves all of it or nothing.
+ghost use Rattle.std.specs.Prelude.{◌≡◌, ◌∷◌, [], ◌⊎◌, true, false, List, IfOk, OnOk, OnErr};
+ghost use Rattle.amo_system_calls.specs.Calls.{Made, Did, Missed, Fell, Open, ReadFile, ReadFrom, Write, Sync, Rename, Link, Remove, Makes, MakesSome, HasStopped, after_all};
+ghost use Rattle.amo_system_calls.specs.declared.model.Mode.TheVariants.{Read as ToRead, MakeNew, MakeOrEmpty};
 
-/// Returns the content of a file, or `None` if no file has this name.
+use amo_system_calls::{Mode, SystemCalls};
+use std::io;
+
+/// The system's number of the error that nothing has a name.
+const NO_SUCH_FILE: i32 = 2;
+
+/// Opens a file or a folder that must be there.
 ///
 /// # Errors
-///
-/// The system's error. A file that can't be read is never taken for a missing one.
-pub fn read_file<R: Files + AllocGlobal>(rt: &R, path: &str) -> io::Result<Option<Vec<u8>>> {
-    match fs::read(rt, path) {
-        Ok(bytes) => Ok(Some(bytes)),
-        Err(error) if error.kind() == ErrorKind::NotFound => Ok(None),
-        Err(error) => Err(error),
+/// The system's error. It is of the kind `NotFound` if nothing has this name.
+pub fn open_existing<S: SystemCalls>(
+    system: &mut S,
+    path: &str,
+    mode: Mode,
+) -> io::Result<S::Handle>
+    ensures done { OnOk result (Makes (S.has_made system.old) (S.has_made system.new) (Did (Open path.now mode) ∷ [])) }
+    ensures path { IfOk result (λ handle. S.opened_by handle path.now) }
+    ensures fails { OnErr result (MakesSome (S.has_made system.old) (S.has_made system.new) (Open path.now mode ∷ [])) }
+{
+    match system.open(path, mode)? {
+        Some(handle) => Ok(handle),
+        None => Err(io::Error::from_raw_os_error(NO_SUCH_FILE)),
     }
 }
 
-/// Opens a file to read and write, and makes it for its owner alone if it is missing. The folder
-/// isn't synced.
+/// Returns the content of a file that must be there.
 ///
 /// # Errors
-///
-/// The system's error.
-pub fn create_private<R: Files>(rt: &R, path: &str) -> io::Result<R::File> {
-    let mut options = OpenOptions::new();
-    options.read(true).write(true).create(true).mode(0o600);
-    options.open(rt, path)
-}
-
-/// Opens an existing file to read and write.
-///
-/// # Errors
-///
-/// The system's error.
-pub fn open_private<R: Files>(rt: &R, path: &str) -> io::Result<R::File> {
-    let mut options = OpenOptions::new();
-    options.read(true).write(true);
-    options.open(rt, path)
-}
-
-/// Makes a folder for its owner alone.
-///
-/// # Errors
-///
-/// The system's error. The kind `AlreadyExists` means that something has this name.
-pub fn make_folder<R: Files>(rt: &R, path: &str) -> io::Result<()> {
-    let mut builder = DirBuilder::new();
-    builder.mode(0o700);
-    builder.create(rt, path)
+/// The system's error, also one for want of memory. It is of the kind `NotFound` if nothing has
+/// this name.
+pub fn read_existing<S: SystemCalls>(system: &mut S, path: &str) -> io::Result<Vec<u8>>
+    ensures done { OnOk result (Makes (S.has_made system.old) (S.has_made system.new) (Did (ReadFile path.now) ∷ [])) }
+    ensures fails { OnErr result (MakesSome (S.has_made system.old) (S.has_made system.new) (ReadFile path.now ∷ [])) }
+{
+    match system.read_file(path)? {
+        Some(bytes) => Ok(bytes),
+        None => Err(io::Error::from_raw_os_error(NO_SUCH_FILE)),
+    }
 }
 
 /// Syncs the folder of this path: from then on a power cut leaves the names that it has now.
 ///
 /// # Errors
-///
 /// The system's error.
-pub fn sync_folder<R: Files<File = File>>(rt: &R, path: &str) -> io::Result<()> {
-    fs::open(rt, path)?.sync_all()
+pub fn sync_folder<S: SystemCalls>(system: &mut S, path: &str) -> io::Result<()>
+    ensures done { OnOk result (Makes (S.has_made system.old) (S.has_made system.new) (Did (Open path.now ToRead) ∷ Did (Sync path.now) ∷ [])) }
+    ensures fails { OnErr result (MakesSome (S.has_made system.old) (S.has_made system.new) (Open path.now ToRead ∷ Sync path.now ∷ [])) }
+{
+    let folder = open_existing(system, path, Mode::Read)?;
+    system.sync(&folder)
+}
+
+/// Returns the bytes of a file, all of them on the disk. It syncs the file that it has read, also
+/// if another has come into its place meanwhile.
+///
+/// # Errors
+/// The system's error, also one for want of memory.
+pub fn read_synced<S: SystemCalls>(system: &mut S, path: &str) -> io::Result<Vec<u8>>
+    ensures done { OnOk result (Makes (S.has_made system.old) (S.has_made system.new) (Did (Open path.now ToRead) ∷ Did (ReadFrom path.now 0) ∷ Did (Sync path.now) ∷ [])) }
+    ensures fails { OnErr result (MakesSome (S.has_made system.old) (S.has_made system.new) (Open path.now ToRead ∷ ReadFrom path.now 0 ∷ Sync path.now ∷ [])) }
+{
+    let source = open_existing(system, path, Mode::Read)?;
+    let bytes = system.read_from(&source, 0)?;
+    system.sync(&source)?;
+    Ok(bytes)
 }
 
 /// Replaces a file by one with these bytes, or makes it if it is missing. It makes the new file
 /// whole under the name `beside`, and renames it. So a reader that opens the file meanwhile finds
-/// the old or the new one. With `synced` the bytes are on the disk before they have the name, and
-/// the name before this call returns. A power cut then leaves the old file or the new one.
+/// the old or the new one. The bytes are on the disk before they have the name, and the name before
+/// this call returns. A power cut then leaves the old file or the new one.
 ///
 /// # Errors
-///
 /// The system's error. The name `beside` may then be left, or the file replaced and not synced.
-pub fn replace_file<R: Files<File = File>>(
-    rt: &R,
+pub fn replace_file<S: SystemCalls>(
+    system: &mut S,
     folder: &str,
     path: &str,
     beside: &str,
     bytes: &[u8],
-    synced: bool,
-) -> io::Result<()> {
-    let mut options = OpenOptions::new();
-    options.write(true).create(true).truncate(true).mode(0o600);
-    let mut file = options.open(rt, beside)?;
-    file.write_all(bytes)?;
-    if synced {
-        file.sync_all()?;
-    }
-    fs::rename(rt, beside, path)?;
-    if synced {
-        sync_folder(rt, folder)?;
-    }
-    Ok(())
+) -> io::Result<()>
+    ensures done { OnOk result (Makes (S.has_made system.old) (S.has_made system.new) (Did (Open beside.now MakeOrEmpty) ∷ Did (Write beside.now bytes.now) ∷ Did (Sync beside.now) ∷ Did (Rename beside.now path.now) ∷ Did (Open folder.now ToRead) ∷ Did (Sync folder.now) ∷ [])) }
+    ensures fails { OnErr result (MakesSome (S.has_made system.old) (S.has_made system.new) (Open beside.now MakeOrEmpty ∷ Write beside.now bytes.now ∷ Sync beside.now ∷ Rename beside.now path.now ∷ Open folder.now ToRead ∷ Sync folder.now ∷ [])) }
+{
+    let mut synced = open_existing(system, beside, Mode::MakeOrEmpty)?;
+    system.write_all(&mut synced, bytes)?;
+    system.sync(&synced)?;
+    system.rename(beside, path)?;
+    sync_folder(system, folder)
+}
+
+/// Replaces a file as [`replace_file`] does, and syncs nothing: after a power cut the file may have
+/// any content.
+///
+/// # Errors
+/// The system's error. The name `beside` may then be left.
+pub fn replace_unsynced<S: SystemCalls>(
+    system: &mut S,
+    path: &str,
+    beside: &str,
+    bytes: &[u8],
+) -> io::Result<()>
+    ensures done { OnOk result (Makes (S.has_made system.old) (S.has_made system.new) (Did (Open beside.now MakeOrEmpty) ∷ Did (Write beside.now bytes.now) ∷ Did (Rename beside.now path.now) ∷ [])) }
+    ensures fails { OnErr result (MakesSome (S.has_made system.old) (S.has_made system.new) (Open beside.now MakeOrEmpty ∷ Write beside.now bytes.now ∷ Rename beside.now path.now ∷ [])) }
+{
+    let mut unsynced = open_existing(system, beside, Mode::MakeOrEmpty)?;
+    system.write_all(&mut unsynced, bytes)?;
+    system.rename(beside, path)
 }
 
 /// Makes a file with these bytes, for its owner alone, and syncs it. The folder isn't synced.
 ///
 /// # Errors
 /// `AlreadyExists` if something has this name, else the system's.
-pub fn make_file<R: Files<File = File>>(rt: &R, path: &str, bytes: &[u8]) -> io::Result<()> {
-    let mut options = OpenOptions::new();
-    options.write(true).create_new(true).mode(0o600);
-    let mut file = options.open(rt, path)?;
-    file.write_all(bytes)?;
-    file.sync_all()
+pub fn make_file<S: SystemCalls>(system: &mut S, path: &str, bytes: &[u8]) -> io::Result<()>
+    ensures done { OnOk result (Makes (S.has_made system.old) (S.has_made system.new) (Did (Open path.now MakeNew) ∷ Did (Write path.now bytes.now) ∷ Did (Sync path.now) ∷ [])) }
+    ensures fails { OnErr result (MakesSome (S.has_made system.old) (S.has_made system.new) (Open path.now MakeNew ∷ Write path.now bytes.now ∷ Sync path.now ∷ [])) }
+{
+    let mut file = open_existing(system, path, Mode::MakeNew)?;
+    system.write_all(&mut file, bytes)?;
+    system.sync(&file)
+}
+
+/// Makes a file with these bytes, and puts it in the place of what has this name. It makes the file
+/// whole and synced under the name `fresh`. The folder isn't synced.
+///
+/// # Errors
+/// The system's error. The name `fresh` may then be left.
+pub fn make_and_rename<S: SystemCalls>(
+    system: &mut S,
+    path: &str,
+    fresh: &str,
+    bytes: &[u8],
+) -> io::Result<()>
+    ensures done { OnOk result (Makes (S.has_made system.old) (S.has_made system.new) (Did (Open fresh.now MakeNew) ∷ Did (Write fresh.now bytes.now) ∷ Did (Sync fresh.now) ∷ Did (Rename fresh.now path.now) ∷ [])) }
+    ensures fails { OnErr result (MakesSome (S.has_made system.old) (S.has_made system.new) (Open fresh.now MakeNew ∷ Write fresh.now bytes.now ∷ Sync fresh.now ∷ Rename fresh.now path.now ∷ [])) }
+{
+    make_file(system, fresh, bytes)?;
+    system.rename(fresh, path)
 }
 
 /// Makes a file with these bytes, unless something has this name. It makes the file whole and
 /// synced under the name `beside`, gives it its name by a link, and removes the name `beside`. So
-/// nobody finds a part of it, and nothing is ever replaced. The folder isn't synced.
+/// nobody finds a part of it, and nothing is ever replaced. The folder isn't synced. Returns true
+/// if the file was made.
 ///
 /// # Errors
-///
 /// The system's error. The name `beside` may then be left.
-pub fn make_if_missing<R: Files<File = File>>(
-    rt: &R,
+pub fn make_if_missing<S: SystemCalls>(
+    system: &mut S,
     path: &str,
     beside: &str,
     bytes: &[u8],
-) -> io::Result<()> {
-    make_file(rt, beside, bytes)?;
-    let linked = fs::hard_link(rt, beside, path);
-    fs::remove_file(rt, beside)?;
-    match linked {
-        Err(error) if error.kind() != ErrorKind::AlreadyExists => Err(error),
-        _ => Ok(()),
-    }
-}
-
-/// Returns the names in a folder, in no order, without those that are no UTF-8.
-///
-/// # Errors
-/// The system's, or a want of memory.
-pub fn names_in<R: Files + AllocGlobal + Clone + Drop>(
-    rt: &R,
-    folder: &str,
-) -> io::Result<Vec<String>> {
-    let mut names = Vec::new(rt.alloc());
-    for entry in fs::read_dir(rt, folder)? {
-        match entry {
-            Ok(entry) => names.push(String::from_str(rt.alloc(), entry.file_name())?)?,
-            Err(error) if error.kind() == ErrorKind::InvalidFilename => {}
-            Err(error) => return Err(error),
-        }
-    }
-    Ok(names)
-}
-
-/// Returns true if this process's user owns the file with this name, and the name isn't a link.
-///
-/// # Errors
-///
-/// The system's error.
-pub fn is_mine<R: Files>(rt: &R, path: &str) -> io::Result<bool> {
-    let found = fs::symlink_metadata(rt, path)?;
-    let mine = fs::metadata(rt, "/proc/self")?;
-    Ok(!found.is_symlink() && found.uid() == mine.uid())
+) -> io::Result<bool>
+    ensures made { IfOk result (λ made. made ≡ true → Makes (S.has_made system.old) (S.has_made system.new) (Did (Open beside.now MakeNew) ∷ Did (Write beside.now bytes.now) ∷ Did (Sync beside.now) ∷ Did (Link beside.now path.now) ∷ Did (Remove beside.now) ∷ [])) }
+    ensures taken { IfOk result (λ made. made ≡ false → Makes (S.has_made system.old) (S.has_made system.new) (Did (Open beside.now MakeNew) ∷ Did (Write beside.now bytes.now) ∷ Did (Sync beside.now) ∷ Missed (Link beside.now path.now) ∷ Did (Remove beside.now) ∷ [])) }
+    ensures fails { OnErr result ((past : List Made) → S.has_made system.old past → HasStopped (S.has_made system.new) (Open beside.now MakeNew ∷ Write beside.now bytes.now ∷ Sync beside.now ∷ Link beside.now path.now ∷ Remove beside.now ∷ []) past ⊎ S.has_made system.new (after_all (Did (Open beside.now MakeNew) ∷ Did (Write beside.now bytes.now) ∷ Did (Sync beside.now) ∷ Missed (Link beside.now path.now) ∷ Fell (Remove beside.now) ∷ []) past)) }
+{
+    make_file(system, beside, bytes)?;
+    let made = system.link(beside, path)?;
+    system.remove(beside)?;
+    Ok(made)
 }

@@ -1,67 +1,30 @@
 //! The runner, which starts the commands: the worker speaks with it by standard input and output.
+ghost use Rattle.std.specs.Prelude.{◌∷◌, [], IfOk, IfSome, IfNone, OnErr};
+ghost use Rattle.amo_system_calls.specs.Calls.{Did, Print, ReadLine, Makes, MakesSome};
+
 use amo_run_faults::Fault;
 use amo_runner_protocol::whole_line;
-use std::alloc::AllocError;
+use amo_system_calls::SystemCalls;
+use std::alloc::{AllocError, Global};
 use std::io;
-use std::io::{BufRead, Input, Write};
-use std::rt::HostRuntime;
 
-/// The runner, and its last line.
-#[derive(Drop)]
-pub struct Runner {
-    rt: HostRuntime,
-    input: <HostRuntime as Input>::Reader,
-    /// The runner's last line, without its line feed.
-    said: Vec<u8>,
-}
-
-impl Runner {
-    /// Returns the runner on standard input and output, which has said nothing yet.
-    pub fn new(rt: HostRuntime) -> Runner {
-        Runner {
-            rt,
-            input: rt.reader(),
-            said: Vec::new(rt.alloc()),
-        }
+/// Writes a line to the runner, waits for its reply, and returns that without its line feed.
+/// Returns `None` if the runner takes no line or has closed its pipe, also within a line.
+///
+/// # Errors
+/// `Memory` if the reply finds no room.
+pub fn exchange<S: SystemCalls>(system: &mut S, line: &[u8]) -> Result<Option<Vec<u8>>, Fault>
+    ensures heard { IfOk result (λ heard. IfSome heard (λ _. Makes (S.has_made system.old) (S.has_made system.new) (Did (Print line.now) ∷ Did ReadLine ∷ []))) }
+    ensures nothing { IfOk result (λ heard. IfNone heard (MakesSome (S.has_made system.old) (S.has_made system.new) (Print line.now ∷ ReadLine ∷ []))) }
+    ensures fails { OnErr result (MakesSome (S.has_made system.old) (S.has_made system.new) (Print line.now ∷ ReadLine ∷ [])) }
+{
+    if system.print(line).is_err() {
+        return Ok(None);
     }
-
-    /// Writes a line to the runner, waits for its reply, and returns that without its line feed.
-    /// Returns `None` if the runner takes no line or has closed its pipe, also within a line.
-    ///
-    /// # Errors
-    /// `Memory` if the reply finds no room.
-    pub fn exchange(&mut self, line: &[u8]) -> Result<Option<Vec<u8>>, Fault> {
-        let mut out = self.rt.stdout();
-        if out.write_all(line).is_err() || out.flush().is_err() {
-            return Ok(None);
-        }
-        let mut said = Vec::new(self.rt.alloc());
-        match self.input.read_until(b'\n', &mut said) {
-            Ok(_) => Ok(whole_line(said)),
-            Err(error) if error.kind() == io::ErrorKind::OutOfMemory => Err(Fault::Memory),
-            Err(_) => Ok(None),
-        }
-    }
-
-    /// Writes a line to the runner, waits for its reply, and returns that without its line feed, as
-    /// [`Runner::exchange`] does. The reply is kept, to be shown if it is invalid.
-    ///
-    /// # Errors
-    /// As [`Runner::exchange`].
-    pub fn ask(&mut self, line: &[u8]) -> Result<Option<Vec<u8>>, Fault> {
-        let heard = self.exchange(line)?;
-        if let Some(said) = &heard {
-            self.said = said.to_vec(self.rt.alloc())?;
-        }
-        Ok(heard)
-    }
-
-    /// Returns the runner's last line as a text to print.
-    ///
-    /// # Errors
-    /// `AllocError` if there was no memory.
-    pub fn shown(&self) -> Result<String, AllocError> {
-        shown(self.rt, &self.said)
+    match system.read_line() {
+        Ok(said) => Ok(whole_line(said)),
+        Err(error) if error.kind() == io::ErrorKind::OutOfMemory => Err(Fault::Memory),
+        Err(_) => Ok(None),
     }
 }
 
@@ -69,9 +32,9 @@ impl Runner {
 ///
 /// # Errors
 /// `AllocError` if there was no memory.
-pub fn shown(rt: HostRuntime, said: &[u8]) -> Result<String, AllocError> {
+pub fn shown(alloc: Global, said: &[u8]) -> Result<String, AllocError> {
     match std::str::from_utf8(said) {
-        Ok(text) => String::from_str(rt.alloc(), text),
-        Err(_) => String::from_str(rt.alloc(), "(not UTF-8)"),
+        Ok(text) => String::from_str(alloc, text),
+        Err(_) => String::from_str(alloc, "(not UTF-8)"),
     }
 }

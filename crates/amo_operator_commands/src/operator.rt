@@ -1,6 +1,7 @@
 //! The commands of an operator, over the files of a run.
 use crate::logged_files::LoggedFiles;
 use amo_call_log::{End, begin};
+use amo_fs::read_existing;
 use amo_host_parts::item_of_log;
 use amo_operator::{Command, Halt, run};
 use amo_operator_files::OperatorFiles;
@@ -8,7 +9,7 @@ use amo_run_dir::Age;
 use amo_run_faults::{Fault, Item, Later, Setting, had};
 use amo_run_log::Fault as Misread;
 use amo_status::{EarlyAnswers, Said, read_answers, read_one};
-use std::fs;
+use amo_system_calls::Os;
 use std::rt::HostRuntime;
 
 /// Carries out an operator's command on a run. `age` says how its folder was made.
@@ -93,7 +94,7 @@ pub fn said_by(
 /// # Errors
 /// `Read` if the file can't be read, `NoAnswerOf` for the first line that is invalid, and `Memory`.
 pub fn said_in(rt: HostRuntime, sheet: &str) -> Result<Vec<Said>, Fault> {
-    let bytes = had(Item::Sheet, fs::read(&rt, sheet))?;
+    let bytes = had(Item::Sheet, read_existing(&mut Os::new(rt), sheet))?;
     match read_answers(rt.alloc(), &bytes) {
         Ok(all) => Ok(all),
         Err(Misread::Memory) => Err(Fault::Memory),

@@ -3,9 +3,9 @@
 ghost use Rattle.std.specs.Prelude.{◌≡◌};
 
 use crate::old::old_texts_of;
-use amo_fs::{FileDevice, is_at};
+use amo_fs::FileDevice;
 use amo_host::{Failed, LogFile};
-use amo_host_parts::{LastFault, appended, item_of_log, now, print};
+use amo_host_parts::{LastFault, appended, item_of_log, print};
 use amo_journal::AppendError;
 use amo_operator::{OperatorHost, OperatorLock};
 use amo_run_dir::{
@@ -17,10 +17,9 @@ use amo_run_files::{Jobs, RoundFile};
 use amo_run_journals::OpenJournal;
 use amo_run_log::{Entry, Finding, Outcome};
 use amo_status::AttemptId;
+use amo_system_calls::{LockMode, Os, SystemCalls};
 use std::fs::File;
 use std::rt::HostRuntime;
-use std::time::Duration;
-use std::{fs, thread};
 
 /// The pause between two tries of a lock, in milliseconds.
 const PAUSE: u64 = 50;
@@ -43,7 +42,7 @@ struct RecoveredLog {
 /// is made or written. After a call has failed, `take_fault` says why.
 #[derive(Drop)]
 pub struct OperatorFiles<'a> {
-    rt: HostRuntime,
+    system: Os,
     setting: Setting<'a>,
     age: Age,
     held: Vec<HeldLock>,
@@ -56,7 +55,7 @@ impl<'a> OperatorFiles<'a> {
     /// Returns a host that has nothing open yet. `age` says how the folder was made.
     pub fn new(rt: HostRuntime, setting: &Setting<'a>, age: Age) -> OperatorFiles<'a> {
         OperatorFiles {
-            rt,
+            system: Os::new(rt),
             setting: *setting,
             age,
             held: Vec::new(rt.alloc()),
@@ -75,7 +74,8 @@ impl<'a> OperatorFiles<'a> {
         if self.age == Age::Old || may_be_missing(lock) {
             return self.locked_if_there(lock);
         }
-        match lock_of(self.rt, &self.setting, item_of_lock(lock))? {
+        let item = item_of_lock(lock);
+        match lock_of(&mut self.system, &self.setting, item, LockMode::Exclusive)? {
             Some(handle) => {
                 self.held.push(HeldLock { lock, handle })?;
                 Ok(true)
@@ -89,41 +89,41 @@ impl<'a> OperatorFiles<'a> {
     /// after it was opened counts as locked by another process.
     fn locked_if_there(&mut self, lock: OperatorLock) -> Result<bool, Fault> {
         let item = item_of_lock(lock);
-        let handle = match try_lock_of(self.rt, &self.setting, item)? {
+        let handle = match try_lock_of(&mut self.system, &self.setting, item)? {
             Tried::Got(handle) => handle,
             Tried::Held => return Ok(false),
             Tried::Missing => return Ok(true),
         };
-        let path = path_of(self.rt, &self.setting, item)?;
-        let is_there = had(item, is_at(&self.rt, &handle, path.as_str()))?;
+        let path = path_of(self.system.alloc(), &self.setting, item)?;
+        let is_there = had(item, self.system.is_at(&handle, path.as_str()))?;
         self.held.push(HeldLock { lock, handle })?;
         Ok(is_there)
     }
 
     /// Checks the folder, as the host's `check_folder` does.
-    fn checked(&self, kept: bool) -> Result<(), Fault> {
+    fn checked(&mut self, kept: bool) -> Result<(), Fault> {
         match self.age {
             Age::Old => Ok(()),
-            Age::Now if kept => check_kept(self.rt, &self.setting),
-            Age::Now => check_id(self.rt, &self.setting),
+            Age::Now if kept => check_kept(&mut self.system, &self.setting),
+            Age::Now => check_id(&mut self.system, &self.setting),
         }
     }
 
     /// Returns the file of the last round, if there is one. A round of version 0.1.0 counts
     /// nothing, so it isn't read.
-    fn last_round(&self) -> Result<Option<RoundFile>, Fault> {
+    fn last_round(&mut self) -> Result<Option<RoundFile>, Fault> {
         match self.age {
-            Age::Now => record_of(self.rt, &self.setting),
+            Age::Now => record_of(&mut self.system, &self.setting),
             Age::Old => Ok(None),
         }
     }
 
     /// Returns the texts of a log, as the host's `read_log` does.
-    fn texts_of(&self, log: LogFile, last: Option<&RoundFile>) -> Result<Vec<Vec<u8>>, Fault> {
+    fn texts_of(&mut self, log: LogFile, last: Option<&RoundFile>) -> Result<Vec<Vec<u8>>, Fault> {
         let item = item_of_log(log);
         match self.age {
-            Age::Now => Ok(log_of(self.rt, &self.setting, item, last)?.records),
-            Age::Old => old_texts_of(self.rt, &self.setting, item),
+            Age::Now => Ok(log_of(&mut self.system, &self.setting, item, last)?.records),
+            Age::Old => old_texts_of(&mut self.system, &self.setting, item),
         }
     }
 
@@ -137,8 +137,8 @@ impl<'a> OperatorFiles<'a> {
             return Err(Fault::NoWay);
         };
         let item = item_of_log(log);
-        let (journal, texts) = recovered(self.rt, &self.setting, item, last, handle)?;
-        sync(self.rt, &self.setting)?;
+        let (journal, texts) = recovered(&mut self.system, &self.setting, item, last, handle)?;
+        sync(&mut self.system, &self.setting)?;
         self.logs.push(RecoveredLog { log, journal })?;
         Ok(texts)
     }
@@ -239,12 +239,12 @@ impl<'a> OperatorHost for OperatorFiles<'a> {
     }
 
     fn read_jobs(&mut self, last: Option<&RoundFile>) -> Result<Jobs, Failed> {
-        let jobs = known(self.rt, &self.setting, last);
+        let jobs = known(&mut self.system, &self.setting, last);
         self.fault.told(jobs)
     }
 
     fn read_clock(&mut self) -> u64 {
-        now(self.rt)
+        self.system.now()
     }
 
     fn put_doubt(&mut self, attempt: AttemptId, time: u64) -> Result<(), Failed> {
@@ -254,31 +254,31 @@ impl<'a> OperatorHost for OperatorFiles<'a> {
             serial: attempt.serial,
             answer: Outcome::Doubt { time },
         };
-        let given = journal.put(self.rt.alloc(), entry);
+        let given = journal.put(self.system.alloc(), entry);
         let kept = self.keep_log(log, given);
         self.fault.told(kept)
     }
 
     fn remove_command_file(&mut self, attempt: AttemptId) {
         let item = Item::Command(attempt.worker, attempt.serial);
-        if let Ok(path) = path_of(self.rt, &self.setting, item) {
-            let _ = fs::remove_file(&self.rt, path.as_str());
+        if let Ok(path) = path_of(self.system.alloc(), &self.setting, item) {
+            let _ = self.system.remove(path.as_str());
         }
     }
 
     fn put_answer(&mut self, answer: Finding) -> Result<(), Failed> {
         let journal = self.take_log(LogFile::Answers)?;
-        let given = journal.put_finding(self.rt.alloc(), answer);
+        let given = journal.put_finding(self.system.alloc(), answer);
         let kept = self.keep_log(LogFile::Answers, given);
         self.fault.told(kept)
     }
 
     fn print(&mut self, text: &[u8]) -> Result<(), Failed> {
-        let printed = print(self.rt, text);
+        let printed = print(&mut self.system, text);
         self.fault.told(printed)
     }
 
     fn pause(&self) {
-        thread::sleep(&self.rt, Duration::from_millis(PAUSE));
+        self.system.pause(PAUSE);
     }
 }

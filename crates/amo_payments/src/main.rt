@@ -13,8 +13,9 @@ ghost use Rattle.amo_journal.specs.Journal.{MayRecover};
 ghost use Rattle.amo_example_payments.specs.Reports.{IsServed, IsBegun};
 
 use amo_example_payments::serve;
-use amo_fs::{FileDevice, create_private, sync_folder, try_exclusive};
+use amo_fs::{FileDevice, open_existing, sync_folder};
 use amo_journal::Device;
+use amo_system_calls::{LockMode, Mode, Os, SystemCalls};
 use std::alloc::Global;
 use std::fs::{File, OpenOptions};
 use std::io::{Read, Write};
@@ -100,12 +101,15 @@ fn folder_of(path: &str) -> &str {
 /// Opens the journal, and makes it if it is missing. Takes its lock, which is kept until the
 /// process ends.
 fn open_journal(rt: HostRuntime, path: &str) -> Result<FileDevice, Refusal> {
-    let file = create_private(&rt, path).map_err(|_| Refusal::Journal)?;
-    if !try_exclusive(&file).map_err(|_| Refusal::Journal)? {
+    let mut system = Os::new(rt);
+    let opened = open_existing(&mut system, path, Mode::MakeOrReadWrite);
+    let file = opened.map_err(|_| Refusal::Journal)?;
+    let locked = system.try_lock(&file, LockMode::Exclusive);
+    if !locked.map_err(|_| Refusal::Journal)? {
         return Err(Refusal::Held);
     }
     // A process that made the file may have been killed before the file's name was on the disk.
-    sync_folder(&rt, folder_of(path)).map_err(|_| Refusal::Journal)?;
+    sync_folder(&mut system, folder_of(path)).map_err(|_| Refusal::Journal)?;
     FileDevice::open(rt.alloc(), file).map_err(|_| Refusal::Journal)
 }
 

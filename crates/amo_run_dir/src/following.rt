@@ -3,20 +3,19 @@ use crate::follower::Follower;
 use amo_params::MAX_WORKERS;
 use amo_run_faults::{Fault, Item, Setting};
 use amo_run_files::{Extent, RoundFile};
+use amo_system_calls::SystemCalls;
 use std::alloc::Global;
-use std::fs::File;
-use std::rt::HostRuntime;
 
 /// The handles by which a process reads the answers and the journals of a run on. It opens the
 /// answers first, and then the journals of the workers 1, 2 and so on.
 #[derive(Drop)]
-pub struct FollowedFiles {
-    files: Vec<Follower>,
+pub struct FollowedFiles<H> {
+    files: Vec<Follower<H>>,
 }
 
-impl FollowedFiles {
+impl<H: Drop> FollowedFiles<H> {
     /// Returns no handles yet.
-    pub fn new(alloc: Global) -> FollowedFiles {
+    pub fn new(alloc: Global) -> FollowedFiles<H> {
         FollowedFiles {
             files: Vec::new(alloc),
         }
@@ -32,27 +31,27 @@ impl FollowedFiles {
     /// As `Follower::open` and `Follower::more`. `Lost` if `last` counts more appends than were
     /// read, or another last one. `NoWay` if there is no such file, or if it isn't this one's turn
     /// to be opened.
-    pub fn read(
+    pub fn read<S: SystemCalls<Handle = H>>(
         &mut self,
-        rt: HostRuntime,
+        system: &mut S,
         setting: &Setting<'_>,
         last: Option<&RoundFile>,
         item: Item,
-        own: Option<&File>,
+        own: Option<&H>,
     ) -> Result<(Vec<Vec<u8>>, Extent), Fault> {
         let place = place_of(item)?;
         if place == self.files.len() {
-            let (file, log) = Follower::open(rt, setting, last, item, own)?;
-            let extent = file.extent(rt, setting)?;
+            let (file, log) = Follower::open(system, setting, last, item, own)?;
+            let extent = file.extent(system, setting)?;
             self.files.push(file)?;
             return Ok((log.records, extent));
         }
         if place > self.files.len() {
             return Err(Fault::NoWay);
         }
-        let records = self.files[place].more(rt)?.records;
-        self.files[place].check(rt, setting, last)?;
-        Ok((records, self.files[place].extent(rt, setting)?))
+        let records = self.files[place].more(system)?.records;
+        self.files[place].check(system, setting, last)?;
+        Ok((records, self.files[place].extent(system, setting)?))
     }
 
     /// Reads the answers or a journal on, and returns the records of the appends that were not read
@@ -60,12 +59,16 @@ impl FollowedFiles {
     ///
     /// # Errors
     /// As `Follower::more`, and `NoWay` if the file was not opened.
-    pub fn read_on(&mut self, rt: HostRuntime, item: Item) -> Result<Vec<Vec<u8>>, Fault> {
+    pub fn read_on<S: SystemCalls<Handle = H>>(
+        &mut self,
+        system: &mut S,
+        item: Item,
+    ) -> Result<Vec<Vec<u8>>, Fault> {
         let place = place_of(item)?;
         if place >= self.files.len() {
             return Err(Fault::NoWay);
         }
-        Ok(self.files[place].more(rt)?.records)
+        Ok(self.files[place].more(system)?.records)
     }
 }
 

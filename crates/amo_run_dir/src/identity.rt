@@ -1,10 +1,13 @@
 //! The identity of a run's folder: its id, and the files that were made with it.
+ghost use Rattle.std.specs.Prelude.{◌≡◌, ◌∷◌, [], true, false, IfOk, IfSome, IfNone, OnOk, OnErr};
+ghost use Rattle.amo_system_calls.specs.Calls.{Did, Missed, Look, ReadFile, Makes, MakesSome};
+ghost use Rattle.amo_run_faults.specs.declared.layout.Item.TheVariants.{Id, Forgotten};
+ghost use Rattle.amo_run_faults.specs.Names.{path_in};
+
 use crate::files::{bytes_of, path_of};
 use amo_journal::Checksum;
 use amo_run_faults::{Fault, Item, Setting, had, is_id};
-use std::fs;
-use std::io::ErrorKind;
-use std::rt::HostRuntime;
+use amo_system_calls::SystemCalls;
 
 /// How a run's folder was made.
 #[derive(Clone, Copy, PartialEq, Eq)]
@@ -19,8 +22,12 @@ pub enum Age {
 ///
 /// # Errors
 /// `Refused` if it is malformed.
-fn id_of(rt: HostRuntime, setting: &Setting<'_>) -> Result<Option<Vec<u8>>, Fault> {
-    let Some(bytes) = bytes_of(rt, setting, Item::Id)? else {
+fn id_of<S: SystemCalls>(system: &mut S, setting: &Setting<'_>) -> Result<Option<Vec<u8>>, Fault>
+    ensures found { IfOk result (λ id. IfSome id (λ _. Makes (S.has_made system.old) (S.has_made system.new) (Did (ReadFile (path_in setting.now.run.now Id)) ∷ []))) }
+    ensures missing { IfOk result (λ id. IfNone id (Makes (S.has_made system.old) (S.has_made system.new) (Missed (ReadFile (path_in setting.now.run.now Id)) ∷ []))) }
+    ensures fails { OnErr result (MakesSome (S.has_made system.old) (S.has_made system.new) (ReadFile (path_in setting.now.run.now Id) ∷ [])) }
+{
+    let Some(bytes) = bytes_of(system, setting, Item::Id)? else {
         return Ok(None);
     };
     let [text @ .., b'\n'] = bytes.as_slice() else {
@@ -29,15 +36,19 @@ fn id_of(rt: HostRuntime, setting: &Setting<'_>) -> Result<Option<Vec<u8>>, Faul
     if !is_id(text) {
         return Err(Fault::Refused(Item::Id));
     }
-    Ok(Some(text.to_vec(rt.alloc())?))
+    Ok(Some(text.to_vec(system.alloc())?))
 }
 
 /// Returns true if the folder has an id.
 ///
 /// # Errors
 /// `Refused` if it is malformed, `OtherId` if another run was asked for.
-pub fn has_id(rt: HostRuntime, setting: &Setting<'_>) -> Result<bool, Fault> {
-    let Some(text) = id_of(rt, setting)? else {
+pub fn has_id<S: SystemCalls>(system: &mut S, setting: &Setting<'_>) -> Result<bool, Fault>
+    ensures found { IfOk result (λ has. has ≡ true → Makes (S.has_made system.old) (S.has_made system.new) (Did (ReadFile (path_in setting.now.run.now Id)) ∷ [])) }
+    ensures missing { IfOk result (λ has. has ≡ false → Makes (S.has_made system.old) (S.has_made system.new) (Missed (ReadFile (path_in setting.now.run.now Id)) ∷ [])) }
+    ensures fails { OnErr result (MakesSome (S.has_made system.old) (S.has_made system.new) (ReadFile (path_in setting.now.run.now Id) ∷ [])) }
+{
+    let Some(text) = id_of(system, setting)? else {
         return Ok(false);
     };
     match setting.id {
@@ -50,15 +61,18 @@ pub fn has_id(rt: HostRuntime, setting: &Setting<'_>) -> Result<bool, Fault> {
 ///
 /// # Errors
 /// `NoId` if the folder has no id, `Refused` if it is malformed.
-pub fn first_checksum(
-    rt: HostRuntime,
+pub fn first_checksum<S: SystemCalls>(
+    system: &mut S,
     setting: &Setting<'_>,
     item: Item,
-) -> Result<Checksum, Fault> {
-    let Some(id) = id_of(rt, setting)? else {
+) -> Result<Checksum, Fault>
+    ensures done { OnOk result (Makes (S.has_made system.old) (S.has_made system.new) (Did (ReadFile (path_in setting.now.run.now Id)) ∷ [])) }
+    ensures fails { OnErr result (MakesSome (S.has_made system.old) (S.has_made system.new) (ReadFile (path_in setting.now.run.now Id) ∷ [])) }
+{
+    let Some(id) = id_of(system, setting)? else {
         return Err(Fault::NoId);
     };
-    let name = format!(in rt.alloc(); "{item}")?;
+    let name = format!(in system.alloc(); "{item}")?;
     Ok(Checksum::first(&id, name.as_bytes()))
 }
 
@@ -66,11 +80,13 @@ pub fn first_checksum(
 ///
 /// # Errors
 /// As [`has_id`], and `OldRun`, `NoId` or `Missing` if it has none.
-pub fn check_id(rt: HostRuntime, setting: &Setting<'_>) -> Result<(), Fault> {
-    if has_id(rt, setting)? {
+pub fn check_id<S: SystemCalls>(system: &mut S, setting: &Setting<'_>) -> Result<(), Fault>
+    ensures done { OnOk result (Makes (S.has_made system.old) (S.has_made system.new) (Did (ReadFile (path_in setting.now.run.now Id)) ∷ [])) }
+{
+    if has_id(system, setting)? {
         return Ok(());
     }
-    Err(no_id(rt, setting)?)
+    Err(no_id(system, setting)?)
 }
 
 /// Returns the fault of a folder that has no id: it was made by version 0.1.0, or has lost its id,
@@ -78,8 +94,8 @@ pub fn check_id(rt: HostRuntime, setting: &Setting<'_>) -> Result<(), Fault> {
 ///
 /// # Errors
 /// `Read` if its record can't be read, and `Memory`.
-pub fn no_id(rt: HostRuntime, setting: &Setting<'_>) -> Result<Fault, Fault> {
-    match bytes_of(rt, setting, Item::Record)? {
+pub fn no_id<S: SystemCalls>(system: &mut S, setting: &Setting<'_>) -> Result<Fault, Fault> {
+    match bytes_of(system, setting, Item::Record)? {
         Some(bytes) if bytes.starts_with(b"amo-run 2\n") => Ok(Fault::Missing(Item::Id)),
         Some(_) => Ok(Fault::OldRun),
         None => Ok(Fault::NoId),
@@ -90,9 +106,11 @@ pub fn no_id(rt: HostRuntime, setting: &Setting<'_>) -> Result<Fault, Fault> {
 ///
 /// # Errors
 /// As [`check_id`], and `Forgotten`.
-pub fn check_kept(rt: HostRuntime, setting: &Setting<'_>) -> Result<(), Fault> {
-    check_id(rt, setting)?;
-    match len_of(rt, setting, Item::Forgotten)? {
+pub fn check_kept<S: SystemCalls>(system: &mut S, setting: &Setting<'_>) -> Result<(), Fault>
+    ensures done { OnOk result (Makes (S.has_made system.old) (S.has_made system.new) (Did (ReadFile (path_in setting.now.run.now Id)) ∷ Missed (Look (path_in setting.now.run.now Forgotten)) ∷ [])) }
+{
+    check_id(system, setting)?;
+    match len_of(system, setting, Item::Forgotten)? {
         Some(_) => Err(Fault::Forgotten),
         None => Ok(()),
     }
@@ -102,11 +120,18 @@ pub fn check_kept(rt: HostRuntime, setting: &Setting<'_>) -> Result<(), Fault> {
 ///
 /// # Errors
 /// `Read` if the system can't look the file up, and `Memory`.
-pub fn len_of(rt: HostRuntime, setting: &Setting<'_>, item: Item) -> Result<Option<u64>, Fault> {
-    let path = path_of(rt, setting, item)?;
-    match fs::metadata(&rt, path.as_str()) {
-        Ok(found) => Ok(Some(found.len())),
-        Err(error) if error.kind() == ErrorKind::NotFound => Ok(None),
-        given => Ok(Some(had(item, given)?.len())),
+pub fn len_of<S: SystemCalls>(
+    system: &mut S,
+    setting: &Setting<'_>,
+    item: Item,
+) -> Result<Option<u64>, Fault>
+    ensures found { IfOk result (λ len. IfSome len (λ _. Makes (S.has_made system.old) (S.has_made system.new) (Did (Look (path_in setting.now.run.now item)) ∷ []))) }
+    ensures missing { IfOk result (λ len. IfNone len (Makes (S.has_made system.old) (S.has_made system.new) (Missed (Look (path_in setting.now.run.now item)) ∷ []))) }
+    ensures fails { OnErr result (MakesSome (S.has_made system.old) (S.has_made system.new) (Look (path_in setting.now.run.now item) ∷ [])) }
+{
+    let path = path_of(system.alloc(), setting, item)?;
+    match had(item, system.look(path.as_str(), true))? {
+        Some(found) => Ok(Some(found.len)),
+        None => Ok(None),
     }
 }

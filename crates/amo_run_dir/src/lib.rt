@@ -18,10 +18,10 @@ mod logs;
 mod round;
 mod state;
 
-pub use files::{bytes_of, path_of, replaced, sync, synced_bytes};
+pub use files::{bytes_of, path_of, replaced, replaced_unsynced, sync, synced_bytes};
 pub use following::FollowedFiles;
 pub use identity::{Age, check_id, check_kept, first_checksum, has_id, len_of, no_id};
-pub use locks::{Tried, check_number, lock_of, recovered, shared_lock_of, try_lock_of};
+pub use locks::{Tried, check_number, lock_of, recovered, try_lock_of};
 pub use logs::{Look, counted_in, fault_of, log_of, look_at_log};
 pub use round::{record_of, replace_record};
 pub use state::{known, known_again};

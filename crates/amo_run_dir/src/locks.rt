@@ -1,58 +1,45 @@
 //! The locks of a run, and the guard of a worker's number.
+ghost use Rattle.std.specs.Prelude.{◌≡◌, ◌∷◌, [], List, ℕ, Ok, IfOk, IfSome, IfNone, OnOk, OnErr};
+ghost use Rattle.amo_system_calls.specs.Calls.{Did, Missed, Open, ReadFile, Look, Lock, Compare, Makes, MakesSome};
+ghost use Rattle.amo_system_calls.specs.declared.model.LockMode.TheVariants.{Exclusive};
+ghost use Rattle.amo_system_calls.specs.declared.model.Mode.TheVariants.{Read as ToRead};
+ghost use Rattle.amo_run_faults.specs.declared.layout.Item.TheVariants.{Id, Forgotten, Journal};
+ghost use Rattle.amo_run_faults.specs.Names.{path_in};
+ghost use Rattle.amo_run_dir.specs.Modes.{mode_of};
+ghost use Rattle.amo_run_dir.specs.Trying.{IfGot, IfHeld, IfMissing};
+
 use crate::files::{opened, opened_to_read, path_of};
 use crate::identity::{check_kept, first_checksum};
 use crate::logs::log_of;
-use amo_fs::{FileDevice, is_at, try_exclusive, try_shared};
+use amo_fs::FileDevice;
 use amo_journal::{DeviceError, RecoverError};
 use amo_run_faults::{Fault, Item, Later, Setting, had, written};
 use amo_run_files::RoundFile;
 use amo_run_journals::OpenJournal;
+use amo_system_calls::{LockMode, SystemCalls};
 use std::fs::File;
-use std::rt::HostRuntime;
 
-/// Takes the exclusive lock on a file of the run. Returns `None` if another process has a lock. It
-/// doesn't wait.
+/// Takes a lock on a file of the run, by a new handle. Returns `None` if another process has a lock
+/// that excludes it. It doesn't wait. The file must still have its name once it is locked.
 ///
 /// # Errors
-///
-/// The fault of a file that can't be opened or locked.
-pub fn lock_of(rt: HostRuntime, setting: &Setting<'_>, item: Item) -> Result<Option<File>, Fault> {
-    let file = opened(rt, setting, item)?;
-    if !written(item, try_exclusive(&file))? {
-        return Ok(None);
-    }
-    still_there(rt, setting, item, file)
-}
-
-/// Takes a shared lock on a file of the run, by a new handle. Returns `None` if another process has
-/// the exclusive lock. It doesn't wait.
-///
-/// # Errors
-///
-/// The fault of a file that can't be opened or locked.
-pub fn shared_lock_of(
-    rt: HostRuntime,
+/// The fault of a file that can't be opened or locked. `Later` if it was removed or replaced.
+pub fn lock_of<S: SystemCalls>(
+    system: &mut S,
     setting: &Setting<'_>,
     item: Item,
-) -> Result<Option<File>, Fault> {
-    let file = opened(rt, setting, item)?;
-    if !written(item, try_shared(&file))? {
+    mode: LockMode,
+) -> Result<Option<S::Handle>, Fault>
+    ensures got { let path = path_in setting.now.run.now item in IfOk result (λ it. IfSome it (λ file. Makes (S.has_made system.old) (S.has_made system.new) (Did (Open path (mode_of item)) ∷ Did (Lock path mode) ∷ Did (Compare path path) ∷ []))) }
+    ensures path { IfOk result (λ it. IfSome it (λ file. S.opened_by file (path_in setting.now.run.now item))) }
+    ensures held { let path = path_in setting.now.run.now item in IfOk result (λ it. IfNone it (Makes (S.has_made system.old) (S.has_made system.new) (Did (Open path (mode_of item)) ∷ Missed (Lock path mode) ∷ []))) }
+    ensures fails { let path = path_in setting.now.run.now item in OnErr result (MakesSome (S.has_made system.old) (S.has_made system.new) (Open path (mode_of item) ∷ Lock path mode ∷ Compare path path ∷ [])) }
+{
+    let file = opened(system, setting, item)?;
+    if !written(item, system.try_lock(&file, mode))? {
         return Ok(None);
     }
-    still_there(rt, setting, item, file)
-}
-
-/// Returns the handle if its file still has this name.
-///
-/// # Errors
-/// `Later` if the file was removed or replaced.
-fn still_there(
-    rt: HostRuntime,
-    setting: &Setting<'_>,
-    item: Item,
-    file: File,
-) -> Result<Option<File>, Fault> {
-    check_name(rt, setting, item, &file)?;
+    check_name(system, setting, item, &file)?;
     Ok(Some(file))
 }
 
@@ -60,14 +47,17 @@ fn still_there(
 ///
 /// # Errors
 /// `Later` if the file was removed or replaced.
-fn check_name(
-    rt: HostRuntime,
+fn check_name<S: SystemCalls>(
+    system: &mut S,
     setting: &Setting<'_>,
     item: Item,
-    file: &File,
-) -> Result<(), Fault> {
-    let path = path_of(rt, setting, item)?;
-    if had(item, is_at(&rt, file, path.as_str()))? {
+    file: &S::Handle,
+) -> Result<(), Fault>
+    ensures done { OnOk result ((path : List ℕ) → S.opened_by file.now path → Makes (S.has_made system.old) (S.has_made system.new) (Did (Compare path (path_in setting.now.run.now item)) ∷ [])) }
+    ensures fails { OnErr result ((path : List ℕ) → S.opened_by file.now path → MakesSome (S.has_made system.old) (S.has_made system.new) (Compare path (path_in setting.now.run.now item) ∷ [])) }
+{
+    let path = path_of(system.alloc(), setting, item)?;
+    if had(item, system.is_at(file, path.as_str()))? {
         Ok(())
     } else {
         Err(Fault::Later(Later::Replaced))
@@ -80,18 +70,18 @@ fn check_name(
 ///
 /// # Errors
 /// As [`log_of`]; then nothing was written.
-pub fn recovered(
-    rt: HostRuntime,
+pub fn recovered<S: SystemCalls<Handle = File>>(
+    system: &mut S,
     setting: &Setting<'_>,
     item: Item,
     last: Option<&RoundFile>,
     lock: &File,
 ) -> Result<(OpenJournal<FileDevice>, Vec<Vec<u8>>), Fault> {
-    log_of(rt, setting, item, last)?;
-    let handle = written(item, lock.try_clone())?;
-    let device = had(item, FileDevice::open(rt.alloc(), handle))?;
-    let first = first_checksum(rt, setting, item)?;
-    match OpenJournal::recover(rt.alloc(), device, first) {
+    log_of(system, setting, item, last)?;
+    let handle = written(item, system.copy(lock))?;
+    let device = had(item, FileDevice::open(system.alloc(), handle))?;
+    let first = first_checksum(system, setting, item)?;
+    match OpenJournal::recover(system.alloc(), device, first) {
         Ok(both) => Ok(both),
         Err(RecoverError::Damaged { number, kind }) => Err(Fault::Damaged(item, number, kind)),
         Err(RecoverError::Device(DeviceError::Memory)) => Err(Fault::Memory),
@@ -104,21 +94,23 @@ pub fn recovered(
 ///
 /// # Errors
 /// As [`check_kept`], and `Later` if the journal was removed or replaced.
-pub fn check_number(
-    rt: HostRuntime,
+pub fn check_number<S: SystemCalls>(
+    system: &mut S,
     setting: &Setting<'_>,
     worker: u64,
-    guard: &File,
-) -> Result<(), Fault> {
-    check_kept(rt, setting)?;
-    check_name(rt, setting, Item::Journal(worker), guard)
+    guard: &S::Handle,
+) -> Result<(), Fault>
+    ensures done { OnOk result ((path : List ℕ) → S.opened_by guard.now path → Makes (S.has_made system.old) (S.has_made system.new) (Did (ReadFile (path_in setting.now.run.now Id)) ∷ Missed (Look (path_in setting.now.run.now Forgotten)) ∷ Did (Compare path (path_in setting.now.run.now (Journal worker))) ∷ [])) }
+{
+    check_kept(system, setting)?;
+    check_name(system, setting, Item::Journal(worker), guard)
 }
 
 /// The result of a try to lock a file that may be missing.
 #[derive(Drop)]
-pub enum Tried {
+pub enum Tried<H> {
     /// It is locked by this handle.
-    Got(File),
+    Got(H),
     /// Another process has the lock.
     Held,
     /// The file is missing.
@@ -129,12 +121,22 @@ pub enum Tried {
 /// nothing.
 ///
 /// # Errors
-/// `Read` if it can't be opened, `Write` if it can't be locked.
-pub fn try_lock_of(rt: HostRuntime, setting: &Setting<'_>, item: Item) -> Result<Tried, Fault> {
-    let Some(file) = opened_to_read(rt, setting, item)? else {
+/// `Read` if it can't be opened, `Write` if it can't be locked, and `Memory`.
+pub fn try_lock_of<S: SystemCalls>(
+    system: &mut S,
+    setting: &Setting<'_>,
+    item: Item,
+) -> Result<Tried<S::Handle>, Fault>
+    ensures got { let path = path_in setting.now.run.now item in IfOk result (λ it. IfGot it (λ file. Makes (S.has_made system.old) (S.has_made system.new) (Did (Open path ToRead) ∷ Did (Lock path Exclusive) ∷ []))) }
+    ensures path { IfOk result (λ it. IfGot it (λ file. S.opened_by file (path_in setting.now.run.now item))) }
+    ensures held { let path = path_in setting.now.run.now item in IfOk result (λ it. IfHeld it (Makes (S.has_made system.old) (S.has_made system.new) (Did (Open path ToRead) ∷ Missed (Lock path Exclusive) ∷ []))) }
+    ensures missing { let path = path_in setting.now.run.now item in IfOk result (λ it. IfMissing it (Makes (S.has_made system.old) (S.has_made system.new) (Missed (Open path ToRead) ∷ []))) }
+    ensures fails { let path = path_in setting.now.run.now item in OnErr result (MakesSome (S.has_made system.old) (S.has_made system.new) (Open path ToRead ∷ Lock path Exclusive ∷ [])) }
+{
+    let Some(file) = opened_to_read(system, setting, item)? else {
         return Ok(Tried::Missing);
     };
-    if written(item, try_exclusive(&file))? {
+    if written(item, system.try_lock(&file, LockMode::Exclusive))? {
         Ok(Tried::Got(file))
     } else {
         Ok(Tried::Held)

@@ -1,15 +1,14 @@
 //! Reading of the journals of a run: each by its checksums, and by what the last round's header
 //! counts.
-use crate::files::{bytes_from, opened_to_read};
+use crate::files::opened_to_read;
 use crate::identity::first_checksum;
 use crate::round::record_of;
 use amo_journal::{Checksum, Log, Place};
-use amo_run_faults::{Fault, Item, Loss, Setting};
+use amo_run_faults::{Fault, Item, Loss, Setting, had};
 use amo_run_files::{Count, Extent, RoundFile};
 use amo_run_journals::{Unread, checked_log, extent_in};
+use amo_system_calls::SystemCalls;
 use std::alloc::Global;
-use std::fs::File;
-use std::rt::HostRuntime;
 
 /// How often a journal is read again if it looks damaged and its writer goes on meanwhile.
 pub(crate) const LOOKS: u32 = 100;
@@ -23,16 +22,16 @@ pub(crate) const LOOKS: u32 = 100;
 /// `Missing` if it isn't there, or if it has appends and no round was begun. `Empty` if it has no
 /// byte. `Damaged` if it is damaged. `Lost` if appends are gone that were on the disk when the last
 /// round began.
-pub fn log_of(
-    rt: HostRuntime,
+pub fn log_of<S: SystemCalls>(
+    system: &mut S,
     setting: &Setting<'_>,
     item: Item,
     last: Option<&RoundFile>,
 ) -> Result<Log, Fault> {
-    let first = first_checksum(rt, setting, item)?;
-    let counted = counted_in(rt, item, last)?;
-    match look_at_log(rt, setting, item, first, counted)? {
-        Look::Read(log, _) => begun(rt, setting, last, log),
+    let first = first_checksum(system, setting, item)?;
+    let counted = counted_in(system.alloc(), item, last)?;
+    match look_at_log(system, setting, item, first, counted)? {
+        Look::Read(log, _) => begun(system, setting, last, log),
         Look::Refused(why, _) => Err(fault_of(item, why, counted, last)),
     }
 }
@@ -43,17 +42,17 @@ pub fn log_of(
 ///
 /// # Errors
 /// As [`log_of`], but `Missing` only of the round's file.
-pub(crate) fn log_in(
-    rt: HostRuntime,
+pub(crate) fn log_in<S: SystemCalls>(
+    system: &mut S,
     setting: &Setting<'_>,
     item: Item,
     last: Option<&RoundFile>,
-    file: &File,
+    file: &S::Handle,
 ) -> Result<(Log, Place), Fault> {
-    let first = first_checksum(rt, setting, item)?;
-    let counted = counted_in(rt, item, last)?;
-    match look_in(rt.alloc(), item, file, first, counted)? {
-        Look::Read(log, place) => Ok((begun(rt, setting, last, log)?, place)),
+    let first = first_checksum(system, setting, item)?;
+    let counted = counted_in(system.alloc(), item, last)?;
+    match look_in(system, item, file, first, counted)? {
+        Look::Read(log, place) => Ok((begun(system, setting, last, log)?, place)),
         Look::Refused(why, _) => Err(fault_of(item, why, counted, last)),
     }
 }
@@ -73,15 +72,15 @@ pub enum Look {
 ///
 /// # Errors
 /// `Missing` if it isn't there, `Empty` if it has no byte, and `Read`.
-pub fn look_at_log(
-    rt: HostRuntime,
+pub fn look_at_log<S: SystemCalls>(
+    system: &mut S,
     setting: &Setting<'_>,
     item: Item,
     first: Checksum,
     counted: Option<Count>,
 ) -> Result<Look, Fault> {
-    match opened_to_read(rt, setting, item)? {
-        Some(file) => look_in(rt.alloc(), item, &file, first, counted),
+    match opened_to_read(system, setting, item)? {
+        Some(file) => look_in(system, item, &file, first, counted),
         None => Err(Fault::Missing(item)),
     }
 }
@@ -90,21 +89,21 @@ pub fn look_at_log(
 ///
 /// # Errors
 /// `Empty` if it has no byte, and `Read`.
-fn look_in(
-    alloc: Global,
+fn look_in<S: SystemCalls>(
+    system: &mut S,
     item: Item,
-    file: &File,
+    file: &S::Handle,
     first: Checksum,
     counted: Option<Count>,
 ) -> Result<Look, Fault> {
-    let mut bytes = whole_of(alloc, item, file)?;
-    let mut read = checked_log(alloc, first, counted, &bytes);
+    let mut bytes = whole_of(system, item, file)?;
+    let mut read = checked_log(system.alloc(), first, counted, &bytes);
     for _look in 0..LOOKS {
         let Err(why) = read else {
             break;
         };
-        let again = whole_of(alloc, item, file)?;
-        let next = checked_log(alloc, first, counted, &again);
+        let again = whole_of(system, item, file)?;
+        let next = checked_log(system.alloc(), first, counted, &again);
         if is_same(&bytes, why, &again, &next) {
             break;
         }
@@ -119,13 +118,13 @@ fn look_in(
 
 /// Returns the log, unless it has appends and no round was begun. Reads the round's file again
 /// before it refuses: the first round may have been begun meanwhile.
-fn begun(
-    rt: HostRuntime,
+fn begun<S: SystemCalls>(
+    system: &mut S,
     setting: &Setting<'_>,
     last: Option<&RoundFile>,
     log: Log,
 ) -> Result<Log, Fault> {
-    if last.is_some() || log.records.is_empty() || record_of(rt, setting)?.is_some() {
+    if last.is_some() || log.records.is_empty() || record_of(system, setting)?.is_some() {
         return Ok(log);
     }
     Err(Fault::Missing(Item::Record))
@@ -136,14 +135,14 @@ fn begun(
 /// # Errors
 /// `Refused` if it counts nothing of it, and `Memory`.
 pub fn counted_in(
-    rt: HostRuntime,
+    alloc: Global,
     item: Item,
     last: Option<&RoundFile>,
 ) -> Result<Option<Count>, Fault> {
     let Some(last) = last else {
         return Ok(None);
     };
-    let name = format!(in rt.alloc(); "{item}")?;
+    let name = format!(in alloc; "{item}")?;
     let Some(extent) = extent_in(&last.extents, name.as_bytes()) else {
         return Err(Fault::Refused(Item::Record));
     };
@@ -155,16 +154,16 @@ pub fn counted_in(
 
 /// Returns how much of a journal with these checksums is on the disk, whatever a crash takes from
 /// now on: all appends but the last.
-pub(crate) fn extent_of(
-    rt: HostRuntime,
+pub(crate) fn extent_of<S: SystemCalls>(
+    system: &mut S,
     setting: &Setting<'_>,
     item: Item,
     checksums: &[Checksum],
 ) -> Result<Extent, Fault> {
-    let first = first_checksum(rt, setting, item)?;
-    let name = format!(in rt.alloc(); "{item}")?;
+    let first = first_checksum(system, setting, item)?;
+    let name = format!(in system.alloc(); "{item}")?;
     let count = Count::of(first, checksums);
-    Ok(Extent::of_count(rt.alloc(), name.as_bytes(), &count)?)
+    Ok(Extent::of_count(system.alloc(), name.as_bytes(), &count)?)
 }
 
 /// Returns true if a second read of a journal was refused as the first one was, and shows the same
@@ -213,8 +212,12 @@ pub fn fault_of(
 ///
 /// # Errors
 /// `Empty` if the file has no byte, and `Read`.
-fn whole_of(alloc: Global, item: Item, file: &File) -> Result<Vec<u8>, Fault> {
-    let bytes = bytes_from(alloc, item, file, 0)?;
+fn whole_of<S: SystemCalls>(
+    system: &mut S,
+    item: Item,
+    file: &S::Handle,
+) -> Result<Vec<u8>, Fault> {
+    let bytes = had(item, system.read_from(file, 0))?;
     if bytes.is_empty() {
         return Err(Fault::Empty(item));
     }

@@ -9,8 +9,8 @@ use crate::files::bytes_of;
 use amo_run_faults::{Fault, Item, Setting};
 use amo_run_files::{HashedJobs, Jobs, JobsFault, RoundFile};
 use amo_run_journals::extent_in;
+use amo_system_calls::SystemCalls;
 use std::alloc::{AllocError, Global};
-use std::rt::HostRuntime;
 
 /// Returns the lines that the run knows. `last` is the file of the last round, which the caller has
 /// read before.
@@ -18,20 +18,20 @@ use std::rt::HostRuntime;
 /// # Errors
 /// `Missing` if they aren't there and a round was begun. `Refused` if they don't begin with what
 /// they were when that round began, or if they are no lines.
-pub fn known(
-    rt: HostRuntime,
+pub fn known<S: SystemCalls>(
+    system: &mut S,
     setting: &Setting<'_>,
     last: Option<&RoundFile>,
 ) -> Result<Jobs, Fault> {
-    let bytes = match (bytes_of(rt, setting, Item::Known)?, last) {
+    let bytes = match (bytes_of(system, setting, Item::Known)?, last) {
         (Some(bytes), _) => bytes,
-        (None, None) => Vec::new(rt.alloc()),
+        (None, None) => Vec::new(system.alloc()),
         (None, Some(_)) => return Err(Fault::Missing(Item::Known)),
     };
     if !is_as_counted(&bytes, last) {
         return Err(Fault::Refused(Item::Known));
     }
-    match Jobs::read(rt.alloc(), bytes, false) {
+    match Jobs::read(system.alloc(), bytes, false) {
         Ok(jobs) => Ok(jobs),
         Err(JobsFault::Memory) => Err(Fault::Memory),
         Err(JobsFault::Refused(..)) => Err(Fault::Refused(Item::Known)),
@@ -45,14 +45,14 @@ pub fn known(
 /// # Errors
 /// `Missing` if they aren't there. `Refused` if they don't begin with what they were when that
 /// round began, or if they are no lines.
-pub fn known_again(
-    rt: HostRuntime,
+pub fn known_again<S: SystemCalls>(
+    system: &mut S,
     setting: &Setting<'_>,
     last: &RoundFile,
     jobs: &mut HashedJobs,
 ) -> Result<(), Fault> {
-    match bytes_of(rt, setting, Item::Known)? {
-        Some(bytes) => take_known(rt.alloc(), jobs, bytes, last),
+    match bytes_of(system, setting, Item::Known)? {
+        Some(bytes) => take_known(system.alloc(), jobs, bytes, last),
         None => Err(Fault::Missing(Item::Known)),
     }
 }

@@ -1,2 +1,3 @@
 pub mod Id
+pub mod Names
 pub mod Statuses

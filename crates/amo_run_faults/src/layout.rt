@@ -1,4 +1,7 @@
 //! The files that a worker reads and writes, and how a message names them.
+ghost use Rattle.std.specs.Prelude.{Some};
+ghost use Rattle.amo_run_faults.specs.Names.{name_of};
+
 use std::fmt;
 use std::fmt::{Display, Formatter};
 
@@ -60,6 +63,8 @@ impl Item {
 }
 
 impl Display for Item {
+    ghost output = { λ item. Some (name_of item) };
+
     fn fmt<W: fmt::Write>(&self, f: &mut Formatter<W>) -> fmt::Result {
         match *self {
             Item::Run => write!(f, "the run's folder"),

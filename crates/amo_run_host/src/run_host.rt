@@ -3,24 +3,23 @@ ghost use Rattle.std.specs.Prelude.{◌≡◌};
 
 use crate::boot::boot_id;
 use crate::lines::read_known;
-use crate::registers::Words;
+use crate::registers::{front_of, load_word, open_words, store_word};
 use amo_fs::FileDevice;
 use amo_host::{Failed, Hold, Host, LogFile, LogPart, Registers, RunLock};
-use amo_host_parts::{LastFault, Runner, appended, item_of_log, now};
+use amo_host_parts::{LastFault, appended, exchange, item_of_log, shown};
 use amo_journal::AppendError;
 use amo_run_dir::{
     FollowedFiles, check_kept, check_number, lock_of, record_of, recovered, replace_record,
-    replaced, shared_lock_of, sync, synced_bytes,
+    replaced, replaced_unsynced, sync, synced_bytes,
 };
 use amo_run_faults::{Fault, Item, ListSettings, Setting};
 use amo_run_files::{HashedJobs, RoundFile};
 use amo_run_journals::OpenJournal;
 use amo_run_log::{AttemptId, Entry};
+use amo_system_calls::{LockMode, Os, SystemCalls};
 use std::alloc::AllocError;
 use std::fs::File;
 use std::rt::HostRuntime;
-use std::thread;
-use std::time::Duration;
 
 /// The pause between two tries of a lock, in milliseconds.
 const PAUSE: u64 = 20;
@@ -29,7 +28,7 @@ const PAUSE: u64 = 20;
 /// failed, `take_fault` says why.
 #[derive(Drop)]
 pub struct RunHost<'a> {
-    rt: HostRuntime,
+    system: Os,
     setting: Setting<'a>,
     /// The path of the user's list.
     list: &'a str,
@@ -40,9 +39,10 @@ pub struct RunHost<'a> {
     round: Option<File>,
     /// `None` before it was recovered, and after an append has failed.
     journal: Option<OpenJournal<FileDevice>>,
-    registers: Option<Words>,
-    logs: FollowedFiles,
-    runner: Runner,
+    registers: Option<File>,
+    logs: FollowedFiles<File>,
+    /// The runner's last line, without its line feed.
+    said: Vec<u8>,
     fault: LastFault,
 }
 
@@ -55,7 +55,7 @@ impl<'a> RunHost<'a> {
         worker: u64,
     ) -> RunHost<'a> {
         RunHost {
-            rt,
+            system: Os::new(rt),
             setting: *setting,
             list: jobs.list,
             worker,
@@ -64,7 +64,7 @@ impl<'a> RunHost<'a> {
             journal: None,
             registers: None,
             logs: FollowedFiles::new(rt.alloc()),
-            runner: Runner::new(rt),
+            said: Vec::new(rt.alloc()),
             fault: LastFault::none(),
         }
     }
@@ -85,7 +85,7 @@ impl<'a> RunHost<'a> {
     ///
     /// `AllocError` if there was no memory.
     pub fn reply_text(&self) -> Result<String, AllocError> {
-        self.runner.shown()
+        shown(self.system.alloc(), &self.said)
     }
 
     /// Takes the journal, for one call. After a call has failed it is gone.
@@ -107,12 +107,17 @@ impl<'a> RunHost<'a> {
 
     /// Takes a lock, and returns the handle that has it. Returns `None` if another process has one
     /// that excludes it.
-    fn locked(&self, lock: RunLock, hold: Hold) -> Result<Option<File>, Fault> {
-        let item = item_of_run_lock(lock);
-        match hold {
-            Hold::Shared => shared_lock_of(self.rt, &self.setting, item),
-            Hold::Exclusive => lock_of(self.rt, &self.setting, item),
-        }
+    fn locked(&mut self, lock: RunLock, hold: Hold) -> Result<Option<File>, Fault> {
+        let mode = match hold {
+            Hold::Shared => LockMode::Shared,
+            Hold::Exclusive => LockMode::Exclusive,
+        };
+        lock_of(
+            &mut self.system,
+            &self.setting,
+            item_of_run_lock(lock),
+            mode,
+        )
     }
 
     /// Recovers the worker's journal, and keeps it.
@@ -121,29 +126,40 @@ impl<'a> RunHost<'a> {
         let Some(guard) = &self.guard else {
             return Err(Fault::NoWay);
         };
-        let (journal, texts) = recovered(self.rt, &self.setting, item, last, guard)?;
+        let (journal, texts) = recovered(&mut self.system, &self.setting, item, last, guard)?;
         self.journal = Some(journal);
         Ok(texts)
     }
 
     /// Opens the registers, and keeps them.
     fn opened(&mut self, front: usize) -> Result<Option<Registers>, Fault> {
-        let Some(words) = Words::open(self.rt, &self.setting)? else {
+        let Some(file) = open_words(&mut self.system, &self.setting)? else {
             return Ok(None);
         };
-        let mut bytes = vec![in self.rt.alloc(); 0u8; front]?;
-        let Some(len) = words.front(&mut bytes)? else {
+        let mut bytes = vec![in self.system.alloc(); 0u8; front]?;
+        let Some(len) = front_of(&mut self.system, &file, &mut bytes)? else {
             return Ok(None);
         };
-        self.registers = Some(words);
+        self.registers = Some(file);
         Ok(Some(Registers { len, front: bytes }))
+    }
+
+    /// Says a line to the runner, and keeps the reply, to be shown if it is invalid.
+    fn asked(&mut self, line: &[u8]) -> Result<Option<Vec<u8>>, Fault> {
+        let heard = exchange(&mut self.system, line)?;
+        if let Some(said) = &heard {
+            self.said = said.to_vec(self.system.alloc())?;
+        }
+        Ok(heard)
     }
 
     /// Reads a log, from its beginning or on.
     fn part_of(&mut self, log: LogFile, last: Option<&RoundFile>) -> Result<LogPart, Fault> {
         let item = item_of_log(log);
         let own = guard_of(&self.guard, log == LogFile::Journal(self.worker));
-        let (texts, counted) = self.logs.read(self.rt, &self.setting, last, item, own)?;
+        let (texts, counted) = self
+            .logs
+            .read(&mut self.system, &self.setting, last, item, own)?;
         Ok(LogPart { texts, counted })
     }
 }
@@ -184,24 +200,24 @@ impl<'a> Host for RunHost<'a> {
 
     fn check_folder(&mut self) -> Result<(), Failed> {
         let checked = match &self.guard {
-            Some(guard) => check_number(self.rt, &self.setting, self.worker, guard),
-            None => check_kept(self.rt, &self.setting),
+            Some(guard) => check_number(&mut self.system, &self.setting, self.worker, guard),
+            None => check_kept(&mut self.system, &self.setting),
         };
         self.fault.told(checked)
     }
 
     fn sync_folder(&mut self) -> Result<(), Failed> {
-        let synced = sync(self.rt, &self.setting);
+        let synced = sync(&mut self.system, &self.setting);
         self.fault.told(synced)
     }
 
     fn read_boot(&mut self) -> Result<Vec<u8>, Failed> {
-        let boot = boot_id(self.rt, self.setting.boot);
+        let boot = boot_id(&mut self.system, self.setting.boot);
         self.fault.told(boot)
     }
 
     fn read_round(&mut self) -> Result<Option<RoundFile>, Failed> {
-        let last = record_of(self.rt, &self.setting);
+        let last = record_of(&mut self.system, &self.setting);
         self.fault.told(last)
     }
 
@@ -211,7 +227,7 @@ impl<'a> Host for RunHost<'a> {
     }
 
     fn read_jobs(&mut self, last: Option<&RoundFile>, jobs: &mut HashedJobs) -> Result<(), Failed> {
-        let read = read_known(self.rt, &self.setting, last, jobs);
+        let read = read_known(&mut self.system, &self.setting, last, jobs);
         self.fault.told(read)
     }
 
@@ -226,28 +242,28 @@ impl<'a> Host for RunHost<'a> {
     }
 
     fn read_list(&mut self) -> Result<Vec<u8>, Failed> {
-        let bytes = synced_bytes(self.rt, Item::List, self.list);
+        let bytes = synced_bytes(&mut self.system, Item::List, self.list);
         self.fault.told(bytes)
     }
 
     fn make_jobs(&mut self, bytes: &[u8]) -> Result<(), Failed> {
-        let made = replaced(self.rt, &self.setting, Item::Known, bytes, true);
+        let made = replaced(&mut self.system, &self.setting, Item::Known, bytes);
         self.fault.told(made)
     }
 
     fn make_round(&mut self, file: &RoundFile) -> Result<(), Failed> {
-        let made = replace_record(self.rt, &self.setting, file);
+        let made = replace_record(&mut self.system, &self.setting, file);
         self.fault.told(made)
     }
 
     fn make_registers(&mut self, bytes: &[u8]) -> Result<(), Failed> {
-        let made = replaced(self.rt, &self.setting, Item::Words, bytes, false);
+        let made = replaced_unsynced(&mut self.system, &self.setting, Item::Words, bytes);
         self.fault.told(made)
     }
 
     fn load(&mut self, register: u64) -> Result<u64, Failed> {
         let loaded = match &self.registers {
-            Some(words) => words.load(register),
+            Some(file) => load_word(&mut self.system, file, register),
             None => Err(Fault::NoWay),
         };
         self.fault.told(loaded)
@@ -255,7 +271,7 @@ impl<'a> Host for RunHost<'a> {
 
     fn store(&mut self, register: u64, value: u64) -> Result<(), Failed> {
         let stored = match &self.registers {
-            Some(words) => words.store(register, value),
+            Some(file) => store_word(&mut self.system, file, register, value),
             None => Err(Fault::NoWay),
         };
         self.fault.told(stored)
@@ -267,44 +283,46 @@ impl<'a> Host for RunHost<'a> {
 
     fn put(&mut self, entry: Entry) -> Result<(), Failed> {
         let journal = self.take_journal()?;
-        let given = journal.put(self.rt.alloc(), entry);
+        let given = journal.put(self.system.alloc(), entry);
         self.keep(given)
     }
 
     fn owe(&mut self, entry: Entry) -> Result<(), Failed> {
         let journal = self.take_journal()?;
-        let given = journal.owe(self.rt.alloc(), entry);
+        let given = journal.owe(self.system.alloc(), entry);
         self.keep(given)
     }
 
     fn pay(&mut self) -> Result<(), Failed> {
         let journal = self.take_journal()?;
-        let given = journal.pay(self.rt.alloc());
+        let given = journal.pay(self.system.alloc());
         self.keep(given)
     }
 
     fn read_on(&mut self, log: LogFile) -> Result<Vec<Vec<u8>>, Failed> {
-        let read = self.logs.read_on(self.rt, item_of_log(log));
+        let read = self.logs.read_on(&mut self.system, item_of_log(log));
         self.fault.told(read)
     }
 
     fn say(&mut self, line: &[u8]) -> Result<Option<Vec<u8>>, Failed> {
-        let heard = self.runner.ask(line);
+        let heard = self.asked(line);
         self.fault.told(heard)
     }
 
     fn pause(&self) {
-        thread::sleep(&self.rt, Duration::from_millis(PAUSE));
+        self.system.pause(PAUSE);
     }
 
     fn now(&self) -> u64 {
-        now(self.rt)
+        self.system.now()
     }
 
     fn tell_taken(&self, line: u64, other: AttemptId) {
         let (worker, serial) = (other.worker, other.serial);
-        let _ = eprintln!(self.rt;
+        if let Ok(text) = format!(in self.system.alloc();
             "amo_worker: line {line}: attempt {worker}.{serial} stands against it; not started"
-        );
+        ) {
+            self.system.tell(text.as_str());
+        }
     }
 }

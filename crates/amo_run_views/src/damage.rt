@@ -7,6 +7,7 @@ use crate::readable::{DamagedRun, ReadableLog, look_for_damage};
 use amo_host_parts::print;
 use amo_run_faults::{Fault, Item, Setting};
 use amo_run_log::{Append, Entry};
+use amo_system_calls::{Os, SystemCalls};
 use std::alloc::{AllocError, Global};
 use std::rt::HostRuntime;
 
@@ -20,8 +21,9 @@ type Named = (u64, u64, u64);
 ///
 /// `DamagedRun` if something is wrong.
 pub fn show_damage(rt: HostRuntime, setting: &Setting<'_>) -> Result<(), Fault> {
-    let run = look_for_damage(rt, setting)?;
-    print_run(rt, &run)?;
+    let mut system = Os::new(rt);
+    let run = look_for_damage(&mut system, setting)?;
+    print_run(&mut system, &run)?;
     if run.is_damaged() {
         Err(Fault::DamagedRun)
     } else {
@@ -30,9 +32,9 @@ pub fn show_damage(rt: HostRuntime, setting: &Setting<'_>) -> Result<(), Fault> 
 }
 
 /// Prints the whole text.
-fn print_run(rt: HostRuntime, run: &DamagedRun) -> Result<(), Fault> {
-    let text = damage_text(rt.alloc(), run)?;
-    print(rt, &text)
+fn print_run<S: SystemCalls>(system: &mut S, run: &DamagedRun) -> Result<(), Fault> {
+    let text = damage_text(system.alloc(), run)?;
+    print(system, &text)
 }
 
 /// Returns the whole text.

@@ -1,17 +1,18 @@
 //! Following of a run: it prints a line of JSON a second, without any lock. Nothing is recovered,
 //! made or written. Start with [`follow`].
-use amo_host_parts::{now, print};
+use amo_host_parts::print;
 use amo_params::MAX_WORKERS;
 use amo_run_dir::{FollowedFiles, bytes_of, known, record_of};
 use amo_run_faults::{Fault, Item, Setting};
 use amo_run_files::RoundFile;
 use amo_run_log::{ReadLogs, first_misplaced};
 use amo_status::{Counts, RunLog, counts, standings};
+use amo_system_calls::{Os, SystemCalls};
 use amo_watch::{AttemptRow, Head, attempt_rows, changed, watch_line};
 use std::alloc::Global;
+use std::fs::File;
+use std::mem;
 use std::rt::HostRuntime;
-use std::time::Duration;
-use std::{mem, thread};
 
 /// The pause between two lines, in milliseconds.
 const PAUSE: u64 = 1000;
@@ -31,12 +32,12 @@ struct FollowedLog {
 /// A run, as far as it was read and shown.
 #[derive(Drop)]
 struct FollowedRun<'a> {
-    rt: HostRuntime,
+    system: Os,
     setting: Setting<'a>,
     id: Vec<u8>,
     /// The file of the last round.
     last: Option<RoundFile>,
-    files: FollowedFiles,
+    files: FollowedFiles<File>,
     /// The answers, and then the journals of the workers 1, 2 and so on.
     parts: Vec<FollowedLog>,
     logs: ReadLogs,
@@ -61,7 +62,7 @@ pub fn follow(rt: HostRuntime, setting: &Setting<'_>, is_once: bool) -> Result<(
         return Ok(());
     }
     for _line in 0..u64::MAX {
-        thread::sleep(&rt, Duration::from_millis(PAUSE));
+        run.system.pause(PAUSE);
         let mut rows = Vec::new(rt.alloc());
         if run.read()? {
             found = run.count()?;
@@ -78,8 +79,9 @@ impl<'a> FollowedRun<'a> {
     /// # Errors
     /// As [`record_of`], and `NoId`.
     fn new(rt: HostRuntime, setting: &Setting<'a>) -> Result<FollowedRun<'a>, Fault> {
-        let alloc = rt.alloc();
-        let Some(mut id) = bytes_of(rt, setting, Item::Id)? else {
+        let mut system = Os::new(rt);
+        let alloc = system.alloc();
+        let Some(mut id) = bytes_of(&mut system, setting, Item::Id)? else {
             return Err(Fault::NoId);
         };
         id.pop();
@@ -88,11 +90,12 @@ impl<'a> FollowedRun<'a> {
         for worker in 1..=MAX_WORKERS as u64 {
             parts.push(FollowedLog::new(alloc, Item::Journal(worker)))?;
         }
+        let last = record_of(&mut system, setting)?;
         Ok(FollowedRun {
-            rt,
+            system,
             setting: *setting,
             id,
-            last: record_of(rt, setting)?,
+            last,
             files: FollowedFiles::new(alloc),
             parts,
             logs: ReadLogs::new(alloc, MAX_WORKERS as usize, 0)?,
@@ -111,12 +114,12 @@ impl<'a> FollowedRun<'a> {
             let last = self.last.as_ref();
             let (texts, _) = self
                 .files
-                .read(self.rt, &self.setting, last, part.item, None)?;
+                .read(&mut self.system, &self.setting, last, part.item, None)?;
             part.texts = texts;
         }
         let mut is_more = self.read_lines()?;
         for part in self.parts.iter_mut() {
-            is_more = part.take(self.rt.alloc(), &mut self.logs)? || is_more;
+            is_more = part.take(self.system.alloc(), &mut self.logs)? || is_more;
         }
         if is_more {
             self.check_answers()?;
@@ -130,14 +133,14 @@ impl<'a> FollowedRun<'a> {
     /// # Errors
     /// As [`record_of`] and [`known`].
     fn read_lines(&mut self) -> Result<bool, Fault> {
-        let last = record_of(self.rt, &self.setting)?;
+        let last = record_of(&mut self.system, &self.setting)?;
         if self.lines > 0 && round_of(&last) == round_of(&self.last) {
             self.last = last;
             return Ok(false);
         }
         let before = self.lines;
-        self.lines = known(self.rt, &self.setting, last.as_ref())?.count();
-        self.logs.grow(self.rt.alloc(), self.lines)?;
+        self.lines = known(&mut self.system, &self.setting, last.as_ref())?.count();
+        self.logs.grow(self.system.alloc(), self.lines)?;
         self.last = last;
         Ok(self.lines > before)
     }
@@ -158,12 +161,12 @@ impl<'a> FollowedRun<'a> {
             journals: self.logs.journals(),
             finals: &[],
         };
-        Ok(counts(&standings(self.rt.alloc(), &log, self.lines as usize)?))
+        Ok(counts(&standings(self.system.alloc(), &log, self.lines as usize)?))
     }
 
     /// Returns the attempts that are new or have changed, and counts them as shown.
     fn fresh_rows(&mut self) -> Result<Vec<AttemptRow>, Fault> {
-        let alloc = self.rt.alloc();
+        let alloc = self.system.alloc();
         let mut fresh = Vec::new(alloc);
         let findings = self.logs.findings();
         for (k, journal) in self.logs.journals().iter().enumerate() {
@@ -180,18 +183,19 @@ impl<'a> FollowedRun<'a> {
     ///
     /// # Errors
     /// `Write` if the output is closed.
-    fn show(&self, counts: &Counts, rows: &[AttemptRow]) -> Result<(), Fault> {
+    fn show(&mut self, counts: &Counts, rows: &[AttemptRow]) -> Result<(), Fault> {
         let (round, workers) = match &self.last {
             Some(last) => (last.header.round, last.header.workers),
             None => (0, 0),
         };
         let head = Head {
-            time: now(self.rt),
+            time: self.system.now(),
             id: std::str::from_utf8(&self.id).unwrap_or(""),
             round,
             workers,
         };
-        print(self.rt, &watch_line(self.rt.alloc(), &head, counts, rows)?)
+        let line = watch_line(self.system.alloc(), &head, counts, rows)?;
+        print(&mut self.system, &line)
     }
 }
 

@@ -13,8 +13,8 @@ use amo_run_dir::{
 use amo_run_faults::{Fault, Item, Setting};
 use amo_run_files::{Jobs, RoundFile};
 use amo_run_journals::Unread;
+use amo_system_calls::SystemCalls;
 use std::alloc::Global;
-use std::rt::HostRuntime;
 
 /// The readable part of the files of a run.
 #[derive(Drop)]
@@ -59,15 +59,18 @@ impl DamagedRun {
 ///
 /// # Errors
 /// `NoId` if the folder has no id, `Refused` if it is malformed, `Memory`.
-pub(crate) fn look_for_damage(rt: HostRuntime, setting: &Setting<'_>) -> Result<DamagedRun, Fault> {
-    first_checksum(rt, setting, Item::Record)?;
-    let (last, mut wrong_record) = parted(record_of(rt, setting))?;
+pub(crate) fn look_for_damage<S: SystemCalls>(
+    system: &mut S,
+    setting: &Setting<'_>,
+) -> Result<DamagedRun, Fault> {
+    first_checksum(system, setting, Item::Record)?;
+    let (last, mut wrong_record) = parted(record_of(system, setting))?;
     let last = last.flatten();
-    let answers = readable_log(rt, setting, Item::Answers, last.as_ref())?;
-    let mut journals = Vec::new(rt.alloc());
+    let answers = readable_log(system, setting, Item::Answers, last.as_ref())?;
+    let mut journals = Vec::new(system.alloc());
     for worker in 1..=MAX_WORKERS as u64 {
         let item = Item::Journal(worker);
-        journals.push(readable_log(rt, setting, item, last.as_ref())?)?;
+        journals.push(readable_log(system, setting, item, last.as_ref())?)?;
     }
     let has_records = !answers.records.is_empty()
         || journals.iter().any(|log| !log.records.is_empty());
@@ -75,7 +78,7 @@ pub(crate) fn look_for_damage(rt: HostRuntime, setting: &Setting<'_>) -> Result<
         wrong_record = Some(Fault::Missing(Item::Record));
     }
     let is_begun = last.is_some() || wrong_record.is_some();
-    let (jobs, wrong_jobs) = parted(readable_jobs(rt, setting, last.as_ref(), is_begun))?;
+    let (jobs, wrong_jobs) = parted(readable_jobs(system, setting, last.as_ref(), is_begun))?;
     Ok(DamagedRun {
         wrong_record,
         jobs,
@@ -86,16 +89,16 @@ pub(crate) fn look_for_damage(rt: HostRuntime, setting: &Setting<'_>) -> Result<
 }
 
 /// Reads the lines, which must be there if a round was begun.
-fn readable_jobs(
-    rt: HostRuntime,
+fn readable_jobs<S: SystemCalls>(
+    system: &mut S,
     setting: &Setting<'_>,
     last: Option<&RoundFile>,
     is_begun: bool,
 ) -> Result<Jobs, Fault> {
-    if is_begun && len_of(rt, setting, Item::Known)?.is_none() {
+    if is_begun && len_of(system, setting, Item::Known)?.is_none() {
         return Err(Fault::Missing(Item::Known));
     }
-    known(rt, setting, last)
+    known(system, setting, last)
 }
 
 /// Returns the value, or the reason without one.
@@ -116,18 +119,18 @@ fn parted<T: Drop>(given: Result<T, Fault>) -> Result<(Option<T>, Option<Fault>)
 }
 
 /// Reads what can be read of a journal. `last` is the file of the last round, if it can be read.
-fn readable_log(
-    rt: HostRuntime,
+fn readable_log<S: SystemCalls>(
+    system: &mut S,
     setting: &Setting<'_>,
     item: Item,
     last: Option<&RoundFile>,
 ) -> Result<ReadableLog, Fault> {
-    let first = first_checksum(rt, setting, item)?;
-    let counted = counted_in(rt, item, last)?;
-    let (look, wrong) = parted(look_at_log(rt, setting, item, first, counted))?;
+    let first = first_checksum(system, setting, item)?;
+    let counted = counted_in(system.alloc(), item, last)?;
+    let (look, wrong) = parted(look_at_log(system, setting, item, first, counted))?;
     match look {
         None => Ok(ReadableLog {
-            records: Vec::new(rt.alloc()),
+            records: Vec::new(system.alloc()),
             wrong,
         }),
         Some(Look::Read(log, _)) => Ok(ReadableLog {
@@ -135,7 +138,7 @@ fn readable_log(
             wrong: None,
         }),
         Some(Look::Refused(why, bytes)) => Ok(ReadableLog {
-            records: front_of(rt.alloc(), first, &bytes, why)?,
+            records: front_of(system.alloc(), first, &bytes, why)?,
             wrong: Some(fault_of(item, why, counted, last)),
         }),
     }

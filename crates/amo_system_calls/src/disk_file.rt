@@ -1,11 +1,8 @@
-//! The calls on a file of the system that a device makes.
+//! The calls by which a journal's file is written, and what we assume of a crash.
 ghost use Rattle.std.specs.Prelude.{◌≡◌, ◌⊎◌, ◌≤◌, ◌<◌, List, ℕ, length, take, IfOk, OnOk, OnErr};
 ghost use Rattle.amo_journal.specs.Device.{AgreesBut, Cut, Differs, Elapses, Follows, Holds, IsOutside, Torn};
 
-use std::fs::File;
 use std::io;
-use std::io::ErrorKind;
-use std::os::unix::fs::FileExt;
 
 /// `DiskFile`: one file, open to read and write, that nobody else writes. Its clauses are what we
 /// assume of a file on a disk, and of what the loss of power leaves of it. If a write is under way
@@ -66,38 +63,4 @@ pub trait DiskFile {
 
     /// Since this moment there is no other.
     ghost only_now: { (file : Self) (c : List ℕ) → left_since file (moment file) c → may_leave file c };
-}
-
-/// Nothing here states what a crash leaves of a file of the system. So we assume of each that it
-/// keeps the clauses of `DiskFile`.
-impl DiskFile for File {
-    ghost may_leave = { λ file c. ⊥ };
-
-    ghost stale = { λ file i. ⊥ };
-
-    ghost moment = { λ file. 0 };
-
-    ghost left_since = { λ file t c. ⊥ };
-
-    ghost counts_now = { λ file t c le now. now };
-
-    ghost only_now = { λ file c left. left };
-
-    fn write_front(&mut self, at: usize, bytes: &[u8], _before: &[u8]) -> io::Result<usize> {
-        for _ in 0..u64::MAX {
-            match self.write_at(bytes, at as u64) {
-                Err(error) if error.kind() == ErrorKind::Interrupted => {}
-                result => return result,
-            }
-        }
-        Err(io::Error::from(ErrorKind::Interrupted))
-    }
-
-    fn cut_to(&mut self, len: usize) -> io::Result<()> {
-        self.set_len(len as u64)
-    }
-
-    fn sync_bytes(&mut self, _shown: &[u8]) -> io::Result<()> {
-        self.sync_data()
-    }
 }

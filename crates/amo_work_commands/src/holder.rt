@@ -1,23 +1,32 @@
 //! The process that has the number of a worker.
 use amo_run_dir::path_of;
 use amo_run_faults::{Fault, Item, Later, Setting, had};
-use std::os::unix::fs::MetadataExt;
+use amo_system_calls::{Os, SystemCalls};
 use std::rt::HostRuntime;
 
 /// Returns why a number can't be taken, with the process that has its lock if the system lists it.
 pub(crate) fn holder(rt: HostRuntime, setting: &Setting<'_>, item: Item) -> Later {
-    match holder_of(rt, setting, item) {
+    match holder_of(&mut Os::new(rt), setting, item) {
         Ok(Some(process)) => Later::TakenBy(process),
         _ => Later::Taken,
     }
 }
 
-fn holder_of(rt: HostRuntime, setting: &Setting<'_>, item: Item) -> Result<Option<u64>, Fault> {
-    let path = path_of(rt, setting, item)?;
-    let found = had(item, std::fs::metadata(&rt, path.as_str()))?;
-    let locks = had(item, std::fs::read_to_string(&rt, "/proc/locks"))?;
-    let end = format!(in rt.alloc(); ":{}", found.ino())?;
-    Ok(holder_in(locks.as_str(), end.as_str()))
+fn holder_of<S: SystemCalls>(
+    system: &mut S,
+    setting: &Setting<'_>,
+    item: Item,
+) -> Result<Option<u64>, Fault> {
+    let path = path_of(system.alloc(), setting, item)?;
+    let Some(found) = had(item, system.look(path.as_str(), true))? else {
+        return Ok(None);
+    };
+    let Some(locks) = had(item, system.read_file("/proc/locks"))? else {
+        return Ok(None);
+    };
+    let inode = found.inode;
+    let end = format!(in system.alloc(); ":{inode}")?;
+    Ok(holder_in(std::str::from_utf8(&locks).unwrap_or(""), end.as_str()))
 }
 
 /// Returns the process that has a lock on a whole file whose device and inode number end so.

@@ -3,18 +3,19 @@
 ghost use Rattle.std.specs.Prelude.{◌≡◌};
 
 use amo_driver::{Failed, LifeEnd, Stop, Try, work};
-use amo_host_parts::{Runner, shown};
+use amo_host_parts::{exchange, shown};
 use amo_params::Givens;
 use amo_run_faults::Fault;
 use amo_runner_protocol::{Lines, Wire, text_of};
+use amo_system_calls::{Os, SystemCalls};
 use amo_worker_args::ByLines;
 use std::rt::HostRuntime;
 
 /// The partner, and why a call has failed.
 #[derive(Drop)]
 struct Streams {
-    rt: HostRuntime,
-    partner: Runner,
+    /// The partner is on standard input and output.
+    system: Os,
     fault: Option<Fault>,
 }
 
@@ -24,11 +25,11 @@ impl Wire for Streams {
     ghost has_said = { λ _ _. Unit {0} };
 
     fn ask(&mut self, asked: Try) -> Result<Option<Vec<u8>>, Failed> {
-        let Ok(line) = text_of(self.rt.alloc(), asked) else {
+        let Ok(line) = text_of(self.system.alloc(), asked) else {
             self.fault = Some(Fault::Memory);
             return Err(Failed);
         };
-        match self.partner.exchange(&line) {
+        match exchange(&mut self.system, &line) {
             Ok(heard) => Ok(heard),
             Err(fault) => {
                 self.fault = Some(fault);
@@ -52,8 +53,7 @@ pub fn work_by_lines(rt: HostRuntime, asked: ByLines) -> Result<(), Fault> {
         return Err(Fault::NoWay);
     }
     let mut lines = Lines::new(Streams {
-        rt,
-        partner: Runner::new(rt),
+        system: Os::new(rt),
         fault: None,
     });
     match work(rt.alloc(), givens, asked.worker as u32, 1, &mut lines) {
@@ -83,7 +83,7 @@ fn fault_of(rt: HostRuntime, stop: Stop, lines: Lines<Streams>) -> Fault {
 /// Returns the fault of an invalid or missing line.
 fn odd(rt: HostRuntime, said: Option<Vec<u8>>) -> Fault {
     match said {
-        Some(line) => match shown(rt, &line) {
+        Some(line) => match shown(rt.alloc(), &line) {
             Ok(text) => Fault::NoAnswer(text),
             Err(_) => Fault::Memory,
         },

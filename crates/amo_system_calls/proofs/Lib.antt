@@ -1,0 +1,1 @@
+-- `amo_system_calls` has no proofs written by hand.
