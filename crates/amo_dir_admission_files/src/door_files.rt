@@ -7,7 +7,7 @@ use amo_dir_admission::{DoorHost, Failed, FolderFile, Halt, Place, Refusal, RunF
 use amo_fs::{make_and_rename, make_file, make_if_missing, read_existing, sync_folder};
 use amo_run_dir::{bytes_of, has_id, len_of, lock_of, path_of, sync};
 use amo_run_faults::{Door, Fault, Item, Later, Setting, had, is_id, written};
-use amo_system_calls::{LockMode, Os, SystemCalls};
+use amo_system_calls::{Found, LockMode, Os, SystemCalls};
 use std::fs::File;
 use std::io;
 use std::io::ErrorKind;
@@ -15,6 +15,9 @@ use std::rt::HostRuntime;
 
 /// The pause between two tries of the lock, in milliseconds.
 const PAUSE: u64 = 20;
+
+/// The system's number of the error that nothing has a name.
+const NO_SUCH_FILE: i32 = 2;
 
 /// The files of a run's folder, as a door has them. After a call has failed, it knows why.
 #[derive(Drop)]
@@ -81,12 +84,20 @@ impl<'a> DoorFiles<'a> {
         Ok(found.is_some())
     }
 
+    /// Returns what has this name, which must be there. A link isn't followed.
+    fn looked(&mut self, path: &str) -> Result<Found, Fault> {
+        match had(Item::Run, self.system.look(path, false))? {
+            Some(found) => Ok(found),
+            None => {
+                let missing = io::Error::from_raw_os_error(NO_SUCH_FILE);
+                Err(Fault::Read(Item::Run, missing))
+            }
+        }
+    }
+
     /// Returns true if a folder has the name, as the host's `is_folder` does.
     fn folder(&mut self) -> Result<bool, Fault> {
-        match had(Item::Run, self.system.look(self.setting.run, false))? {
-            Some(found) => Ok(found.is_folder),
-            None => Ok(false),
-        }
+        Ok(self.looked(self.setting.run)?.is_folder)
     }
 
     /// Checks the list, as the host's `check_list` does.
@@ -114,9 +125,11 @@ impl<'a> DoorFiles<'a> {
             return Ok(None);
         }
         let path = format!(in self.system.alloc(); "{}/{name}", self.setting.run)?;
-        match had(Item::Run, self.system.look(path.as_str(), false))? {
-            Some(found) if found.is_file => Ok(Some(found.len)),
-            _ => Ok(None),
+        let found = self.looked(path.as_str())?;
+        if found.is_file {
+            Ok(Some(found.len))
+        } else {
+            Ok(None)
         }
     }
 
